@@ -1,0 +1,146 @@
+-- The laws of frames, for the layers above.
+use Rattle.std.proofs.Common.{◌≡◌, ℕ, ◌+◌, ◌-◌, ◌≤◌, ◌^◌, List, [], ◌∷◌, ◌++◌, length, take, Ok, Err, refl, sym, ap, subst, ◌∙◌, rules, arith, inl, inr, length-append}
+use Rattle.std.specs.Prelude.{◌⊎◌, ◌↔◌}
+use Rattle.std.proofs.lemmas.List.{take_at}
+use Rattle.star_io.specs.Bytes.{AreBytes}
+use Rattle.field61.specs.declared.TheConstants.{MODULUS}
+use Rattle.report_frame.specs.declared.limits.TheConstants.{SEAL_BYTES, FIXED_BYTES, MAX_FRAME}
+use Rattle.report_frame.specs.declared.fault.Fault.{Fault}
+use Rattle.report_frame.specs.Format.{IsEnd, spelling}
+use Rattle.report_frame.specs.Frame.{Fields, IsFrame, FaultAt, entries, frame, sealed_part, sealed_entries}
+use Rattle.report_frame.specs.Reading.{read, decoded}
+use Rattle.report_frame.specs.Laws.{InRange, IsOneFrame, HasOneFault}
+use Rattle.report_frame.proofs.Walk.{read-whole, read-trailing, spelling-last}
+use Rattle.report_frame.proofs.Frames.{frame_is_sound, decoded-frame, decoded-fault, decodes_to, ToReport, ToFault}
+
+-- ---- decoding
+
+-- bytes decode to a report exactly where they are its frame
+pub decoded_frame : (bytes : List ℕ) (r : Fields) → AreBytes bytes → (decoded bytes ≡ Ok r) ↔ IsFrame r bytes
+decoded_frame bytes r are_bytes = (
+  λ is. elim (decodes_to bytes are_bytes) [
+    | ToReport q frame_of_q is_q ↦ let e : q ≡ r = cc in subst (λ (f : Fields). IsFrame f bytes) e frame_of_q
+    | ToFault fault fault_at is_fault ↦ absurd cc
+  ],
+  λ frame_of_r. decoded-frame r bytes frame_of_r,
+)
+
+-- and to a fault exactly where it is theirs
+pub decoded_fault : (bytes : List ℕ) (fault : Fault) → AreBytes bytes → (decoded bytes ≡ Err fault) ↔ FaultAt bytes fault.kind fault.at
+decoded_fault bytes fault are_bytes = (
+  λ is. elim (decodes_to bytes are_bytes) [
+    | ToReport q frame_of_q is_q ↦ absurd cc
+    | ToFault other fault_at is_fault ↦ let e : other ≡ fault = cc in subst (λ (f : Fault). FaultAt bytes f.kind f.at) e fault_at
+  ],
+  λ fault_at. decoded-fault bytes fault.kind fault.at fault_at,
+)
+
+-- ---- one report, one spelling, one fault
+
+-- a report has one spelling
+pub one_spelling : (r : Fields) (a b : List ℕ) → IsFrame r a → IsFrame r b → a ≡ b
+one_spelling r a b of_a of_b = of_a.spelt ∙ sym of_b.spelt
+
+-- and a spelling one report
+pub one_report : (r q : Fields) (bytes : List ℕ) → IsFrame r bytes → IsFrame q bytes → r ≡ q
+one_report r q bytes of_r of_q = let a = decoded-frame r bytes of_r in let b = decoded-frame q bytes of_q in cc
+
+-- bytes have one fault at most
+pub one_fault : (bytes : List ℕ) (f g : Fault) → FaultAt bytes f.kind f.at → FaultAt bytes g.kind g.at → f ≡ g
+one_fault bytes f g at_f at_g = let a = decoded-fault bytes f.kind f.at at_f in let b = decoded-fault bytes g.kind g.at at_g in cc
+
+-- and a frame has none
+pub no_fault_of_frame : (r : Fields) (bytes : List ℕ) (f : Fault) → IsFrame r bytes → FaultAt bytes f.kind f.at → ⊥
+no_fault_of_frame r bytes f of_r at_f = let a = decoded-frame r bytes of_r in let b = decoded-fault bytes f.kind f.at at_f in cc
+
+-- bytes are the frame of one report, or have one fault
+pub frame_or_fault : (bytes : List ℕ) → AreBytes bytes → IsOneFrame bytes ⊎ HasOneFault bytes
+frame_or_fault bytes are_bytes = elim (decodes_to bytes are_bytes) [
+  | ToReport r of_r is ↦ inl (record {
+    report = r;
+    is_frame = of_r;
+    only = λ q of_q. one_report q r bytes of_q of_r;
+    no_fault = λ f at_f. no_fault_of_frame r bytes f of_r at_f;
+  })
+  | ToFault fault at_fault is ↦ inr (record {
+    fault = fault;
+    is_fault = at_fault;
+    only = λ f at_f. one_fault bytes f fault at_f at_fault;
+    no_frame = λ r of_r. no_fault_of_frame r bytes fault of_r at_fault;
+  })
+]
+
+-- no frame begins with another
+pub no_prefix : (r q : Fields) (bytes more : List ℕ) → IsFrame r bytes → IsFrame q (bytes ++ more) → more ≡ []
+no_prefix r q bytes [] of_r of_q = refl
+no_prefix r q bytes (b ∷ more) of_r of_q =
+    let goes_wrong = ap (λ (l : List ℕ). read frame 0 (l ++ b ∷ more)) of_r.spelt ∙ read-trailing frame 0 (entries r) b more frame_is_sound of_r.range in
+    let goes_well = ap (read frame 0) of_q.spelt ∙ read-whole frame 0 (entries q) frame_is_sound of_q.range in
+    absurd cc
+
+-- ---- what is known of a frame
+
+-- each field is in its range
+pub in_range : (r : Fields) (bytes : List ℕ) → IsFrame r bytes → InRange r
+in_range r bytes of_r =
+    let level = of_r.range.2.2 in
+    let epoch = level.2 in
+    let k = epoch.2 in
+    let x = k.2 in
+    let y0 = x.2 in
+    let y1 = y0.2 in
+    let y2 = y1.2 in
+    let tag = y2.2 in
+    let check = tag.1 in
+    let box_length = check.1 in
+    let nonce = box_length.2.1 in
+    let body_length = nonce.1 in
+    let seal = body_length.2.1 in
+    record {
+      level = level.1;
+      epoch = omega (arith, epoch.1);
+      k_low = k.0;
+      k_high = k.1;
+      x_low = x.0;
+      x_high = omega (arith, x.1);
+      y0 = omega (arith, y0.1);
+      y1 = omega (arith, y1.1);
+      y2 = omega (arith, y2.1);
+      tag = tag.0;
+      check = check.0;
+      box_low = box_length.0;
+      box_high = box_length.1;
+      nonce = nonce.0;
+      body = body_length.0;
+      seal = seal.0;
+    }
+
+-- the fields of fixed size take `FIXED_BYTES` bytes
+spelling_length : (r : Fields) → InRange r → length (spelling frame (entries r)) ≡ FIXED_BYTES + length r.boxed + length r.body
+spelling_length r range = omega (arith, length-append {A = ℕ}, range.tag, range.check, range.nonce, range.seal)
+
+pub frame_length : (r : Fields) (bytes : List ℕ) → IsFrame r bytes → length bytes ≡ FIXED_BYTES + length r.boxed + length r.body
+frame_length r bytes of_r = ap length of_r.spelt ∙ spelling_length r (in_range r bytes of_r)
+
+-- a report in range has a frame, unless that is too long
+pub has_frame : (r : Fields) → InRange r → FIXED_BYTES + length r.boxed + length r.body ≤ MAX_FRAME → IsFrame r (spelling frame (entries r))
+has_frame r range few =
+    let epoch : r.epoch ≤ 2 ^ 32 - 1 = omega (arith, range.epoch) in
+    let x : r.x ≤ MODULUS - 1 = omega (arith, range.x_high) in
+    let y0 : r.y0 ≤ MODULUS - 1 = omega (arith, range.y0) in
+    let y1 : r.y1 ≤ MODULUS - 1 = omega (arith, range.y1) in
+    let y2 : r.y2 ≤ MODULUS - 1 = omega (arith, range.y2) in
+    let body : length r.body ≤ 2 ^ 16 - 1 = omega (arith, few) in
+    record { range = search (rules, arith); spelt = refl; short = omega (arith, spelling_length r range, few) }
+
+-- a frame is its sealed part and its seal
+pub sealed_then_seal : (r : Fields) (bytes : List ℕ) → IsFrame r bytes → bytes ≡ sealed_part r ++ r.seal
+sealed_then_seal r bytes of_r = of_r.spelt ∙ spelling-last frame (sealed_entries r) r.seal IsEnd of_r.range
+
+-- so the sealed part is every byte before the seal
+pub sealed_part_of_frame : (r : Fields) (bytes : List ℕ) → IsFrame r bytes → take (length bytes - SEAL_BYTES) bytes ≡ sealed_part r
+sealed_part_of_frame r bytes of_r =
+    let parts = sealed_then_seal r bytes of_r in
+    let range = in_range r bytes of_r in
+    let size : length (sealed_part r) ≡ length bytes - SEAL_BYTES = omega (arith, ap length parts, length-append (sealed_part r) r.seal, range.seal) in
+    ap (take (length bytes - SEAL_BYTES)) parts ∙ take_at (sealed_part r) r.seal (length bytes - SEAL_BYTES) size

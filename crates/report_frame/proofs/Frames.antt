@@ -1,0 +1,153 @@
+-- The frame of version 1 as a format: what its entries are, and what bytes decode to.
+use Rattle.std.proofs.Common.{◌≡◌, ℕ, ◌+◌, ◌<◌, ◌≤◌, List, [], ◌∷◌, length, Result, Ok, Err, refl, sym, ap, subst, ◌∙◌, rules, arith, inl, inr}
+use Rattle.std.proofs.lemmas.Bool.{cases_lt, le-ltb, lt-ltb}
+use Rattle.star_io.specs.Bytes.{AreBytes}
+use Rattle.report_frame.specs.declared.limits.TheConstants.{MAGIC, VERSION, MAX_FRAME}
+use Rattle.report_frame.specs.declared.fault.FaultKind.{FaultKind}
+use Rattle.report_frame.specs.declared.fault.FaultKind.TheVariants.{TooLong}
+use Rattle.report_frame.specs.declared.fault.Fault.{Fault}
+use Rattle.report_frame.specs.Format.{Size, Format, Entry, After, IsEnd, spelling}
+use Rattle.report_frame.specs.Format.Format.{End, NumberField, BytesField}
+use Rattle.report_frame.specs.Format.Entry.{Number, Bytes}
+use Rattle.report_frame.specs.Frame.{Fields, IsFrame, FaultAt, entries, back, frame}
+use Rattle.report_frame.specs.Reading.{◌>>=◌, read, fields_from, decoded}
+use Rattle.report_frame.proofs.Walk.{IsSound, found, Whole, Wrong, read-whole, read-wrong}
+
+pub frame_is_sound : IsSound frame
+frame_is_sound = search (rules, arith)
+
+-- ---- the entries
+
+-- where a number is due, one in its range stands first
+number_first : (G : Type 0) (size : Size) (fault : FaultKind) (low high : ℕ) (next : ℕ → Format) (es : List Entry) → After (NumberField size fault low high next) es IsEnd →
+    ((n : ℕ) (others : List Entry) → es ≡ Number n ∷ others → low ≤ n → n ≤ high → After (next n) others IsEnd → G) → G
+number_first G size fault low high next [] after then = absurd after
+number_first G size fault low high next (Number n ∷ es) after then = then n es refl after.0 after.1 after.2
+number_first G size fault low high next (Bytes b ∷ es) after then = absurd after
+
+-- where bytes are due, as many stand first
+bytes_first : (G : Type 0) (len : ℕ) (next : Format) (es : List Entry) → After (BytesField len next) es IsEnd →
+    ((b : List ℕ) (others : List Entry) → es ≡ Bytes b ∷ others → length b ≡ len → After next others IsEnd → G) → G
+bytes_first G len next [] after then = absurd after
+bytes_first G len next (Number n ∷ es) after then = absurd after
+bytes_first G len next (Bytes b ∷ es) after then = then b es refl after.0 after.1
+
+-- where no field follows, nothing stands
+nothing_first : (es : List Entry) → After End es IsEnd → es ≡ []
+nothing_first [] after = refl
+nothing_first (e ∷ es) after = absurd after
+
+-- a number of a field with one value
+pinned : (n value : ℕ) → value ≤ n → n ≤ value → n ≡ value
+pinned n value enough within = omega arith
+
+-- what a report puts into the fields from the length of the box on
+record HasBack (es : List Entry) : Type 0 where
+  boxed : List ℕ
+  nonce : List ℕ
+  body : List ℕ
+  seal : List ℕ
+  is : es ≡ Number (length boxed) ∷ Bytes boxed ∷ Bytes nonce ∷ Number (length body) ∷ Bytes body ∷ Bytes seal ∷ []
+
+back_entries : (es : List Entry) → After back es IsEnd → HasBack es
+back_entries es whole =
+    number_first (HasBack es) _ _ _ _ _ es whole (λ box_length es1 box_length_is _ _ whole1.
+    bytes_first (HasBack es) _ _ es1 whole1 (λ boxed es2 boxed_is length_of_box whole2.
+    bytes_first (HasBack es) _ _ es2 whole2 (λ nonce es3 nonce_is _ whole3.
+    number_first (HasBack es) _ _ _ _ _ es3 whole3 (λ body_length es4 body_length_is _ _ whole4.
+    bytes_first (HasBack es) _ _ es4 whole4 (λ body es5 body_is length_of_body whole5.
+    bytes_first (HasBack es) _ _ es5 whole5 (λ seal es6 seal_is _ whole6.
+    let nothing = nothing_first es6 whole6 in
+    record { boxed = boxed; nonce = nonce; body = body; seal = seal; is = cc }))))))
+
+-- a report has these entries
+record HasReport (es : List Entry) : Type 0 where
+  report : Fields
+  is : es ≡ entries report
+
+-- entries in all fields are those of a report
+whole_entries : (es : List Entry) → After frame es IsEnd → HasReport es
+whole_entries es whole =
+    number_first (HasReport es) _ _ _ _ _ es whole (λ magic es1 magic_is magic_low magic_high whole1.
+    number_first (HasReport es) _ _ _ _ _ es1 whole1 (λ version es2 version_is version_low version_high whole2.
+    number_first (HasReport es) _ _ _ _ _ es2 whole2 (λ level es3 level_is _ _ whole3.
+    number_first (HasReport es) _ _ _ _ _ es3 whole3 (λ epoch es4 epoch_is _ _ whole4.
+    number_first (HasReport es) _ _ _ _ _ es4 whole4 (λ k es5 k_is _ _ whole5.
+    number_first (HasReport es) _ _ _ _ _ es5 whole5 (λ x es6 x_is _ _ whole6.
+    number_first (HasReport es) _ _ _ _ _ es6 whole6 (λ y0 es7 y0_is _ _ whole7.
+    number_first (HasReport es) _ _ _ _ _ es7 whole7 (λ y1 es8 y1_is _ _ whole8.
+    number_first (HasReport es) _ _ _ _ _ es8 whole8 (λ y2 es9 y2_is _ _ whole9.
+    bytes_first (HasReport es) _ _ es9 whole9 (λ tag es10 tag_is _ whole10.
+    bytes_first (HasReport es) _ _ es10 whole10 (λ check es11 check_is _ whole11.
+    let rest = back_entries es11 whole11 in
+    let is_magic = pinned magic MAGIC magic_low magic_high in
+    let is_version = pinned version VERSION version_low version_high in
+    let report : Fields = record {
+      level = level;
+      epoch = epoch;
+      k = k;
+      x = x;
+      y0 = y0;
+      y1 = y1;
+      y2 = y2;
+      tag = tag;
+      check = check;
+      boxed = rest.boxed;
+      nonce = rest.nonce;
+      body = rest.body;
+      seal = rest.seal;
+    } in
+    record { report = report; is = cc })))))))))))
+
+-- ---- decoding
+
+decoded-long : (bytes : List ℕ) → MAX_FRAME < length bytes → decoded bytes ≡ Err (record { kind = TooLong; at = MAX_FRAME })
+unfolding decoded
+decoded-long bytes long = rw (lt-ltb MAX_FRAME (length bytes) long) refl
+
+pub decoded-short : (bytes : List ℕ) → length bytes ≤ MAX_FRAME → decoded bytes ≡ (read frame 0 bytes >>= λ es. Ok (fields_from es))
+unfolding decoded
+decoded-short bytes short = rw (le-ltb MAX_FRAME (length bytes) short) refl
+
+-- a frame decodes to its report
+pub decoded-frame : (r : Fields) (bytes : List ℕ) → IsFrame r bytes → decoded bytes ≡ Ok r
+decoded-frame r bytes frame_of_r =
+    let entries_read : read frame 0 bytes ≡ Ok (entries r) = ap (read frame 0) frame_of_r.spelt ∙ read-whole frame 0 (entries r) frame_is_sound frame_of_r.range in
+    decoded-short bytes frame_of_r.short ∙ ap (λ (es : Result (List Entry) Fault). es >>= λ l. Ok (fields_from l)) entries_read
+
+-- a place, counted from the front
+from_front : (n : ℕ) → 0 + n ≡ n
+from_front n = omega arith
+
+-- and bytes with a fault to it
+pub decoded-fault : (bytes : List ℕ) (kind : FaultKind) (at : ℕ) → FaultAt bytes kind at → decoded bytes ≡ Err (record { kind = kind; at = at })
+decoded-fault bytes kind at fault = elim fault [
+  | inl long ↦ decoded-long bytes long.0 ∙ ap (λ (k : FaultKind). Err (record { kind = k; at = MAX_FRAME })) (sym long.1) ∙ ap (λ (p : ℕ). Err (record { kind = kind; at = p })) (sym long.2)
+  | inr wrong ↦
+      let fault_read : read frame 0 bytes ≡ Err (record { kind = kind; at = 0 + length (spelling frame wrong.1.0) }) =
+      ap (read frame 0) wrong.1.2 ∙ read-wrong frame 0 wrong.1.0 wrong.1.1 kind frame_is_sound wrong.1.4 in
+      decoded-short bytes wrong.0 ∙ ap (λ (es : Result (List Entry) Fault). es >>= λ l. Ok (fields_from l)) fault_read ∙ ap (λ (p : ℕ). Err (record { kind = kind; at = p })) (from_front _ ∙ sym wrong.1.3)
+]
+
+-- what bytes decode to
+pub data DecodesTo (bytes : List ℕ) : Type 0 where
+  ToReport : (r : Fields) → IsFrame r bytes → decoded bytes ≡ Ok r → DecodesTo bytes
+  ToFault : (fault : Fault) → FaultAt bytes fault.kind fault.at → decoded bytes ≡ Err fault → DecodesTo bytes
+
+pub decodes_to : (bytes : List ℕ) → AreBytes bytes → DecodesTo bytes
+decodes_to bytes are_bytes = elim (cases_lt MAX_FRAME (length bytes)) [
+  | inl long ↦ ToFault (record { kind = TooLong; at = MAX_FRAME }) (inl (long, refl, refl)) (decoded-long bytes long)
+  | inr short ↦ elim (found frame 0 bytes are_bytes) [
+    | Whole es after parts is ↦
+        let whole = whole_entries es after in
+        let frame_of_report : IsFrame whole.report bytes = record {
+          range = subst (λ (l : List Entry). After frame l IsEnd) whole.is after;
+          spelt = parts ∙ ap (spelling frame) whole.is;
+          short = short;
+        } in
+        ToReport whole.report frame_of_report (decoded-frame whole.report bytes frame_of_report)
+    | Wrong es rest kind place after parts place_is is ↦
+        let fault : FaultAt bytes kind place = inr (short, (es, rest, parts, place_is ∙ from_front _, after)) in
+        ToFault (record { kind = kind; at = place }) fault (decoded-fault bytes kind place fault)
+  ]
+]

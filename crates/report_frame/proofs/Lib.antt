@@ -1,0 +1,5 @@
+pub mod Sizes
+pub mod Walk
+pub mod Frames
+pub mod FrameLaws
+pub mod Views

@@ -1,0 +1,44 @@
+-- The parts of a frame, and what follows for a call that answers what its bytes decode to.
+use Rattle.std.proofs.Common.{◌≡◌, ℕ, ◌-◌, ◌≤◌, List, length, take, Result, Ok, Err, ap, ◌∙◌}
+use Rattle.std.specs.Prelude.{IsOkAnd, IfErr, IsErrOf}
+use Rattle.star_io.specs.Bytes.{AreBytes}
+use Rattle.report_frame.specs.declared.limits.TheConstants.{SEAL_BYTES, MAX_FRAME}
+use Rattle.report_frame.specs.declared.fault.FaultKind.{FaultKind}
+use Rattle.report_frame.specs.declared.fault.Fault.{Fault}
+use Rattle.report_frame.specs.declared.parts.Parts.{Parts}
+use Rattle.report_frame.specs.declared.view.FrameView.{FrameView}
+use Rattle.report_frame.specs.Format.{Entry}
+use Rattle.report_frame.specs.Frame.{Fields, IsFrame, FaultAt, entries, frame}
+use Rattle.report_frame.specs.Reading.{◌>>=◌, Gives, read, decoded, fields_from}
+use Rattle.report_frame.specs.Parts.{fields_of_parts, ViewsFrame}
+use Rattle.report_frame.specs.View.{fields_of}
+use Rattle.report_frame.proofs.Frames.{decoded-short, decoded-frame, decoded-fault}
+use Rattle.report_frame.proofs.FrameLaws.{decoded_frame, decoded_fault, sealed_part_of_frame}
+
+-- ---- the parts that were read
+
+-- the bytes are the frame of their fields
+pub frame_of_parts : (bytes : List ℕ) (p : Parts) → AreBytes bytes → length bytes ≤ MAX_FRAME → read frame 0 bytes ≡ Ok (entries (fields_of_parts p)) → IsFrame (fields_of_parts p) bytes
+frame_of_parts bytes p are_bytes short is =
+    (decoded_frame bytes (fields_of_parts p) are_bytes).0 (decoded-short bytes short ∙ ap (λ (es : Result (List Entry) Fault). es >>= λ l. Ok (fields_from l)) is)
+
+-- and all but the seal is their sealed part
+pub views_frame : (bytes sealed : List ℕ) (p : Parts) → IsFrame (fields_of_parts p) bytes → sealed ≡ take (length bytes - SEAL_BYTES) bytes → ViewsFrame p sealed
+views_frame bytes sealed p of_p is = record { range = of_p.range; sealed_is = is ∙ sealed_part_of_frame (fields_of_parts p) bytes of_p }
+
+-- ---- the answer
+
+-- a frame is answered by its report
+pub only_given : (bytes : List ℕ) (result : Result FrameView Fault) → Gives fields_of result (decoded bytes) → (r : Fields) → IsFrame r bytes → IsOkAnd result (λ v. fields_of v ≡ r)
+only_given bytes (Ok v) given r of_r = let is = decoded-frame r bytes of_r in cc
+only_given bytes (Err f) given r of_r = let is = decoded-frame r bytes of_r in absurd cc
+
+-- a fault that is answered is one of the bytes
+pub fault_given : (bytes : List ℕ) (result : Result FrameView Fault) → AreBytes bytes → Gives fields_of result (decoded bytes) → IfErr result (λ f. FaultAt bytes f.kind f.at)
+fault_given bytes (Ok v) are_bytes given = tt
+fault_given bytes (Err f) are_bytes given = (decoded_fault bytes f are_bytes).0 given
+
+-- and one of the bytes is answered
+pub one_given : (bytes : List ℕ) (result : Result FrameView Fault) → Gives fields_of result (decoded bytes) → (kind : FaultKind) (at : ℕ) → FaultAt bytes kind at → IsErrOf result (record { kind = kind; at = at })
+one_given bytes (Ok v) given kind at at_fault = let is = decoded-fault bytes kind at at_fault in absurd cc
+one_given bytes (Err f) given kind at at_fault = let is = decoded-fault bytes kind at at_fault in cc

@@ -1,0 +1,48 @@
+use Rattle.std.proofs.Common.{arith, rules}
+use Rattle.star_io.proofs.ByteLists.{AreBytes-from_fits}
+use Rattle.report_frame.specs.Reading.{decoded}
+use Rattle.report_frame.proofs.FrameLaws.{frame_length, one_report, no_fault_of_frame}
+use Rattle.report_frame.proofs.Views.{frame_of_parts, views_frame, only_given, fault_given, one_given}
+use Rattle.report_frame.proofs.decode.decode_view.Goals as goal
+
+pub returns-then-bytes-gt-MAX_FRAME-clause-decoded :
+    goal.returns-then-bytes-gt-MAX_FRAME-clause-decoded
+unfolding decoded
+returns-then-bytes-gt-MAX_FRAME-clause-decoded c = search rules
+
+pub returns-in_err-parts-clause-decoded : goal.returns-in_err-parts-clause-decoded
+unfolding decoded
+returns-in_err-parts-clause-decoded c = search rules
+
+pub returns-clause-decoded : goal.returns-clause-decoded
+unfolding decoded
+returns-clause-decoded c = search rules
+
+pub returns-in_err-parts-clause-only : goal.returns-in_err-parts-clause-only
+returns-in_err-parts-clause-only c = only_given _ _ (returns-in_err-parts-clause-decoded c)
+
+pub returns-in_err-parts-clause-fault : goal.returns-in_err-parts-clause-fault
+returns-in_err-parts-clause-fault c = fault_given _ _ (AreBytes-from_fits _ c.type_inv.bytes) (returns-in_err-parts-clause-decoded c)
+
+pub returns-in_err-parts-clause-one : goal.returns-in_err-parts-clause-one
+returns-in_err-parts-clause-one c = one_given _ _ (returns-in_err-parts-clause-decoded c)
+
+pub overflow_sub-bytes : goal.overflow_sub-bytes
+overflow_sub-bytes c =
+    let of_parts = frame_of_parts c.args.bytes.now c.in_ok-parts.parts (AreBytes-from_fits _ c.type_inv.bytes) c.if-bytes-gt-MAX_FRAME.false c.in_ok-parts.ensures in
+    let size = frame_length _ _ of_parts in
+    omega arith
+
+pub invariant_of-result : goal.invariant_of-result
+invariant_of-result c =
+    let of_parts = frame_of_parts c.args.bytes.now c.in_ok-parts.parts (AreBytes-from_fits _ c.type_inv.bytes) c.if-bytes-gt-MAX_FRAME.false c.in_ok-parts.ensures in
+    record { is_frame = views_frame c.args.bytes.now c.split_at.result.0.now c.in_ok-parts.parts of_parts c.split_at.ensures.front }
+
+pub returns-clause-found : goal.returns-clause-found
+returns-clause-found c = frame_of_parts c.args.bytes.now c.in_ok-parts.parts (AreBytes-from_fits _ c.type_inv.bytes) c.if-bytes-gt-MAX_FRAME.false c.in_ok-parts.ensures
+
+pub returns-clause-only : goal.returns-clause-only
+returns-clause-only c r of_r = one_report _ _ _ (returns-clause-found c) of_r
+
+pub returns-clause-one : goal.returns-clause-one
+returns-clause-one c kind at at_fault = absurd (no_fault_of_frame _ _ (record { kind = kind; at = at }) (returns-clause-found c) at_fault)

@@ -1,0 +1,35 @@
+// Bytes as a frame, or their fault.
+ghost use Rattle.std.specs.Prelude.{◌≡◌, ℕ, IfOk, IsOkAnd, IfErr, IsErrOf};
+ghost use Rattle.report_frame.specs.declared.fault.FaultKind.{FaultKind};
+ghost use Rattle.report_frame.specs.Frame.{Fields, IsFrame, FaultAt};
+ghost use Rattle.report_frame.specs.Reading.{Gives, decoded};
+ghost use Rattle.report_frame.specs.View.{fields_of};
+
+use crate::fault::{Fault, FaultKind};
+use crate::frame::read_frame;
+use crate::limits::{MAX_FRAME, SEAL_BYTES};
+use crate::view::FrameView;
+
+/// The frame that the bytes are, or the one fault where they are none. The view borrows the bytes,
+/// and no memory is taken.
+pub fn decode_view(bytes: &[u8]) -> Result<FrameView<'_>, Fault>
+    ensures decoded { Gives fields_of result (decoded bytes.now) }
+
+    // Ok comes exactly where the bytes are a frame, with its report.
+    ensures found { IfOk result (λ v. IsFrame (fields_of v) bytes.now) }
+    ensures only { (r : Fields) → IsFrame r bytes.now → IsOkAnd result (λ v. fields_of v ≡ r) }
+
+    // Else it is the one fault of these bytes.
+    ensures fault { IfErr result (λ f. FaultAt bytes.now f.kind f.at) }
+    ensures one { (kind : FaultKind) (at : ℕ) → FaultAt bytes.now kind at → IsErrOf result (record { kind = kind; at = at }) }
+{
+    if bytes.len() > MAX_FRAME {
+        return Err(Fault {
+            kind: FaultKind::TooLong,
+            at: MAX_FRAME as u32,
+        });
+    }
+    let parts = read_frame(bytes)?;
+    let (sealed, _) = bytes.split_at(bytes.len() - SEAL_BYTES);
+    Ok(FrameView { parts, sealed })
+}

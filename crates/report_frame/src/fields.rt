@@ -1,0 +1,130 @@
+// Reading one field after the other.
+ghost use Rattle.std.specs.Prelude.{◌≡◌, ◌-◌, ◌^◌, [], length, IfOk};
+ghost use Rattle.report_frame.specs.Format.Size.{One, Two, Four, Eight};
+ghost use Rattle.report_frame.specs.Reading.{Gives, number_at, bytes_at, end_at};
+
+use crate::fault::{Fault, FaultKind};
+use crate::limits::{MAGIC, VERSION};
+use field61::MODULUS;
+
+/// So many bytes, and what follows them.
+pub(crate) fn read_bytes(bytes: &[u8], at: u32, size: usize) -> Result<(&[u8], &[u8]), Fault>
+    ensures found { Gives (λ x. (x.0.now, x.1.now)) result (bytes_at size at bytes.now) }
+    ensures size { IfOk result (λ x. length x.0.now ≡ size) }
+{
+    if bytes.len() < size {
+        return Err(Fault {
+            kind: FaultKind::Truncated,
+            at,
+        });
+    }
+    Ok(bytes.split_at(size))
+}
+
+/// The same where the number of bytes is fixed.
+pub(crate) fn read_array<const N: usize>(bytes: &[u8], at: u32) -> Result<(&[u8; N], &[u8]), Fault>
+    ensures { Gives (λ x. (x.0.now, x.1.now)) result (bytes_at N at bytes.now) }
+{
+    match bytes.split_first_chunk::<N>() {
+        Some((front, rest)) => Ok((front, rest)),
+        None => Err(Fault {
+            kind: FaultKind::Truncated,
+            at,
+        }),
+    }
+}
+
+/// A number of one byte in its range.
+pub(crate) fn read_u8(
+    bytes: &[u8],
+    at: u32,
+    kind: FaultKind,
+    low: u8,
+    high: u8,
+) -> Result<(u8, &[u8]), Fault>
+    ensures { Gives (λ x. (x.0, x.1.now)) result (number_at One kind low high at bytes.now) }
+{
+    let (front, rest) = read_bytes(bytes, at, 1)?;
+    let n = front[0];
+    if n < low || high < n {
+        return Err(Fault { kind, at });
+    }
+    Ok((n, rest))
+}
+
+/// A number of two bytes in its range.
+pub(crate) fn read_u16(
+    bytes: &[u8],
+    at: u32,
+    kind: FaultKind,
+    low: u16,
+    high: u16,
+) -> Result<(u16, &[u8]), Fault>
+    ensures { Gives (λ x. (x.0, x.1.now)) result (number_at Two kind low high at bytes.now) }
+{
+    let (front, rest) = read_bytes(bytes, at, 2)?;
+    let n = u16::from_be_bytes([front[0], front[1]]);
+    if n < low || high < n {
+        return Err(Fault { kind, at });
+    }
+    Ok((n, rest))
+}
+
+/// Any number of four bytes.
+pub(crate) fn read_u32(bytes: &[u8], at: u32) -> Result<(u32, &[u8]), Fault>
+    ensures { Gives (λ x. (x.0, x.1.now)) result (number_at Four FaultKind.Truncated 0 (2 ^ 32 - 1) at bytes.now) }
+{
+    let (front, rest) = read_bytes(bytes, at, 4)?;
+    Ok((
+        u32::from_be_bytes([front[0], front[1], front[2], front[3]]),
+        rest,
+    ))
+}
+
+/// A field element of eight bytes, not below `low`.
+pub(crate) fn read_element(
+    bytes: &[u8],
+    at: u32,
+    kind: FaultKind,
+    low: u64,
+) -> Result<(u64, &[u8]), Fault>
+    ensures { Gives (λ x. (x.0, x.1.now)) result (number_at Eight kind low (MODULUS - 1) at bytes.now) }
+{
+    let (front, rest) = read_bytes(bytes, at, 8)?;
+    let n = u64::from_be_bytes([
+        front[0], front[1], front[2], front[3], front[4], front[5], front[6], front[7],
+    ]);
+    if n < low || MODULUS <= n {
+        return Err(Fault { kind, at });
+    }
+    Ok((n, rest))
+}
+
+/// What follows the magic.
+pub(crate) fn skip_magic(bytes: &[u8]) -> Result<&[u8], Fault>
+    ensures { Gives (λ rest. (MAGIC, rest.now)) result (number_at Two FaultKind.Magic MAGIC MAGIC 0 bytes.now) }
+{
+    let (_, rest) = read_u16(bytes, 0, FaultKind::Magic, MAGIC, MAGIC)?;
+    Ok(rest)
+}
+
+/// What follows the version.
+pub(crate) fn skip_version(bytes: &[u8]) -> Result<&[u8], Fault>
+    ensures { Gives (λ rest. (VERSION, rest.now)) result (number_at One FaultKind.Version VERSION VERSION 2 bytes.now) }
+{
+    let (_, rest) = read_u8(bytes, 2, FaultKind::Version, VERSION, VERSION)?;
+    Ok(rest)
+}
+
+/// Nothing may follow the seal.
+pub(crate) fn read_end(bytes: &[u8], at: u32) -> Result<(), Fault>
+    ensures { Gives (λ _. []) result (end_at at bytes.now) }
+{
+    match bytes {
+        [] => Ok(()),
+        [_, ..] => Err(Fault {
+            kind: FaultKind::Trailing,
+            at,
+        }),
+    }
+}

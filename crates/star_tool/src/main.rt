@@ -1,0 +1,77 @@
+//! A tool for streams of reports.
+#![tactic(auto)]
+
+mod run;
+mod status;
+mod stream;
+mod text;
+mod words;
+
+use recovery_pool::NoGate;
+pub use run::run;
+use star_io::{MemorySource, NoMemory, Sink, StdSink, StdSource};
+pub use status::{Status, status_line, status_number};
+use std::alloc::Global;
+use std::env;
+use std::io::{self, BufReader, Read, Write};
+use std::process::ExitCode;
+use std::thread::Threads;
+pub use stream::{MAX_RECORDS, StreamError, read_records};
+pub use text::check_text;
+pub use words::{Command, Words, WordsError, words_of};
+
+/// How many bytes one read of standard input may bring.
+const INPUT_BUFFER: usize = 65536;
+
+fn main(rt: HostRuntime) -> ExitCode {
+    let status = match words_in(&rt) {
+        Ok(words) => run_over(&rt, rt.alloc(), &words, rt.stdin(), rt.stdout()),
+        Err(status) => status,
+    };
+    match status_line(rt.alloc(), &status) {
+        Ok(line) => {
+            // Where standard error can't be written, the exit status alone says how the run ended.
+            let _ = StdSink::new(rt.stderr()).put(&line);
+        }
+        Err(NoMemory) => {}
+    }
+    ExitCode::from(status_number(&status))
+}
+
+// Runs over a reader and a writer of std. The input is read through a buffer.
+fn run_over<R: Threads + Sync, I: Read + Drop, O: Write + Drop>(
+    rt: &R,
+    alloc: Global,
+    words: &Words,
+    stdin: I,
+    stdout: O,
+) -> Status {
+    let buffered = match BufReader::with_capacity(alloc, INPUT_BUFFER, stdin) {
+        Ok(buffered) => buffered,
+        Err(_) => return Status::NoMemory,
+    };
+    let mut input = StdSource::new(buffered);
+    let mut coins = MemorySource::new(Vec::new(alloc), Vec::new(alloc), Vec::new(alloc));
+    let mut out = StdSink::new(stdout);
+    run(rt, alloc, words, &mut input, &mut coins, &NoGate, &mut out)
+}
+
+// The words after the program's name. One that isn't UTF-8 is a faulty command line.
+fn words_in(rt: &HostRuntime) -> Result<Words, Status> {
+    let mut words = Words::new(rt.alloc());
+    let args = match env::args(rt) {
+        Ok(args) => args,
+        Err(error) if error.kind() == io::ErrorKind::OutOfMemory => return Err(Status::NoMemory),
+        Err(_) => return Err(Status::Usage),
+    };
+    for word in args.skip(1) {
+        match words.push(word.as_str()) {
+            Ok(()) => {}
+            Err(NoMemory) => return Err(Status::NoMemory),
+        }
+    }
+    Ok(words)
+}
+
+#[cfg(test)]
+mod tests;
