@@ -1,0 +1,10 @@
+pub mod Binomial
+pub mod Computed
+pub mod Divisors
+pub mod Euclid
+pub mod Fermat
+pub mod FieldLaws
+pub mod Modulus
+pub mod Pocklington
+pub mod Powers
+pub mod Trial
