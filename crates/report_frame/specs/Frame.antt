@@ -54,11 +54,15 @@ frame =
 abbrev pub middle_entries : Fields → List Entry
 middle_entries r = Number (length r.boxed) ∷ Bytes r.boxed ∷ Bytes r.nonce ∷ Number (length r.body) ∷ Bytes r.body ∷ []
 
+-- what a report puts into the fields before the length of the box
+abbrev pub front_entries : Fields → List Entry
+front_entries r =
+    Number MAGIC ∷ Number VERSION ∷ Number r.level ∷ Number r.epoch ∷ Number r.k ∷ Number r.x
+    ∷ Number r.y0 ∷ Number r.y1 ∷ Number r.y2 ∷ Bytes r.tag ∷ Bytes r.check ∷ []
+
 -- what a report puts into the fields before the seal
 abbrev pub sealed_entries : Fields → List Entry
-sealed_entries r =
-    Number MAGIC ∷ Number VERSION ∷ Number r.level ∷ Number r.epoch ∷ Number r.k ∷ Number r.x
-    ∷ Number r.y0 ∷ Number r.y1 ∷ Number r.y2 ∷ Bytes r.tag ∷ Bytes r.check ∷ middle_entries r
+sealed_entries r = front_entries r ++ middle_entries r
 
 -- what a report puts into all the fields
 abbrev pub entries : Fields → List Entry

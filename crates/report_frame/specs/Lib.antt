@@ -4,4 +4,5 @@ pub mod Reading
 pub mod Laws
 pub mod Names
 pub mod Parts
+pub mod Report
 pub mod View

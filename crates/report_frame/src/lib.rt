@@ -9,6 +9,9 @@ mod head;
 pub mod laws;
 mod limits;
 mod parts;
+mod ranges;
+mod report;
+mod spell;
 mod value;
 mod view;
 
@@ -19,8 +22,12 @@ pub use limits::{
     CHECK_BYTES, FIXED_BYTES, MAGIC, MAX_FRAME, MAX_LEVEL, MAX_THRESHOLD, MAX_VALUE, MIN_THRESHOLD,
     NONCE_BYTES, SEAL_BYTES, TAG_BYTES, VERSION,
 };
+pub use report::Report;
+pub use spell::encode;
 pub use value::Value;
 pub use view::FrameView;
 
+#[cfg(test)]
+mod round_trip;
 #[cfg(test)]
 mod tests;
