@@ -1,6 +1,6 @@
 -- What a run does with an input and an output that tell their bytes.
 use Rattle.std.specs.Prelude.{◌≡◌, ℕ, List, [], take, Option, Some, None}
-use Rattle.std.specs.Io.KnownBytes.{Appends, IsAtEnd}
+use Rattle.std.specs.Io.KnownBytes.{Appends}
 use Rattle.star_io.specs.declared.record.Record.{Record}
 use Rattle.star_io.specs.Records.{AreRecords}
 use Rattle.star_tool.specs.declared.words.Command.{Command}

@@ -1,9 +1,9 @@
-use Rattle.std.proofs.Common.{◌≡◌, ◌+◌, ◌-◌, ◌<◌, ◌++◌, ◌∷◌, [], List, ℕ, length, take, map, cond, ap, subst, ◌∙◌, sym, arith}
+use Rattle.std.proofs.Common.{◌≡◌, ◌+◌, ◌<◌, ◌++◌, ◌∷◌, [], List, ℕ, length, take, map, cond, ap, subst, ◌∙◌, sym, arith}
 use Rattle.std.specs.Prelude.{string_bytes, Vec}
 use Rattle.std.specs.declared.alloc.Global.{Global}
 use Rattle.std.proofs.lemmas.List.{take_more, take_all, length-take, length-map, map-append}
 use Rattle.star_io.specs.declared.record.Record.{Record}
-use Rattle.star_tool.specs.Text.{Finding, finding_of}
+use Rattle.star_tool.specs.Text.{finding_of}
 use Rattle.star_tool.proofs.Lines.{Written, one_written, all_written, bool_byte-cond}
 use Rattle.star_tool.proofs.text.check_text.Goals as goal
 
