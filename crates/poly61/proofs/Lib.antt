@@ -1,0 +1,8 @@
+mod Elements
+pub mod Places
+pub mod Counts
+pub mod Roots
+pub mod Lists
+pub mod Values
+pub mod Products
+pub mod PolynomialLaws

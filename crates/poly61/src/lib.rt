@@ -1,0 +1,14 @@
+//! Polynomials over the field of 2^61 - 1, in room that is reserved once.
+//!
+//! [`laws`] has what their contracts rest on: the value is the sum of the c_i · x^i, a nonzero
+//! polynomial has no more roots than its degree, and values at enough points determine it.
+#![tactic(auto)]
+
+mod coefficients;
+pub mod laws;
+mod poly;
+
+pub use poly::Poly;
+
+#[cfg(test)]
+mod tests;

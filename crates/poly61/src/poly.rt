@@ -1,0 +1,205 @@
+ghost use Rattle.std.specs.Prelude.{◌≡◌, ◌≢◌, ◌⊎◌, ◌↔◌, ℕ, ◌<◌, ◌+◌, ◌-◌, length, slice_index, slice_set, Some, IsNone, IfOk};
+ghost use Rattle.field61.specs.Field.{field_difference, field_product, AreElements};
+ghost use Rattle.field61.specs.declared.TheConstants.{MODULUS};
+ghost use Rattle.poly61.specs.Poly.{value, IsZero, HasDegree, HasDegreeBelow, SameCoefficients, IsLinearMultiple, TakesOff, AreDistinct, PassesThrough};
+ghost use Rattle.poly61.specs.Vanishing.{vanishing_of};
+
+use crate::coefficients::{
+    clear_all, copy_all, divide_all, places_of, take_off_all, times_linear_all, value_of,
+};
+use field61::{Fe, known};
+use star_io::NoMemory;
+use std::alloc::Global;
+use std::marker::Model;
+
+/// A polynomial, seen as the list of its coefficients from the lowest. The list is as long as the
+/// room, so zeros at its end don't count. Only [`Poly::with_room`] takes memory.
+#[derive(Drop)]
+pub struct Poly {
+    coefficients: Vec<Fe>,
+    /// The coefficients from this place on are 0.
+    places: usize,
+}
+
+impl Model for Poly {
+    ghost use Rattle.std.specs.Prelude.{ℕ, List};
+    ghost use Rattle.poly61.specs.Poly.{HoldsPlaces};
+
+    ghost Value = { List ℕ };
+
+    ghost view = { λ p. p.coefficients.items };
+
+    ghost invariant = { λ p. HoldsPlaces p.coefficients.items p.places };
+}
+
+impl Poly {
+    /// The zero polynomial.
+    pub fn with_room(alloc: Global, room: usize) -> Result<Poly, NoMemory>
+        ensures room { IfOk result (λ f. length f ≡ room) }
+        ensures zero { IfOk result IsZero }
+    {
+        let coefficients = vec![in alloc; Fe::ZERO; room]?;
+        Ok(Poly {
+            coefficients,
+            places: 0,
+        })
+    }
+
+    /// How many coefficients have room.
+    pub fn room(&self) -> usize
+        ensures room { result ≡ length self.now }
+        ensures elements { AreElements self.now }
+    {
+        self.coefficients.len()
+    }
+
+    /// The coefficient of x^i: 0 past the room.
+    pub fn coefficient(&self, i: usize) -> Fe
+        ensures coefficient { result ≡ slice_index self.now i }
+        ensures below { result < MODULUS }
+    {
+        if i < self.coefficients.len() {
+            self.coefficients[i]
+        } else {
+            Fe::ZERO
+        }
+    }
+
+    pub fn set_coefficient(&mut self, i: usize, c: Fe)
+        requires { i < length self.old }
+        ensures { self.new ≡ slice_set self.old i c }
+    {
+        let _below = c.value();
+        self.coefficients[i] = c;
+        self.places = self.places.max(i + 1);
+    }
+
+    /// Makes it the zero polynomial.
+    pub fn clear(&mut self)
+        ensures room { length self.new ≡ length self.old }
+        ensures zero { IsZero self.new }
+    {
+        clear_all(&mut self.coefficients);
+        self.places = 0;
+    }
+
+    pub fn copy_from(&mut self, other: &Poly)
+        requires { HasDegreeBelow other.now (length self.old) }
+        ensures room { length self.new ≡ length self.old }
+        ensures same { SameCoefficients self.new other.now }
+    {
+        copy_all(&mut self.coefficients, &other.coefficients);
+        self.places = other.places.min(self.coefficients.len());
+    }
+
+    pub fn degree(&self) -> Option<usize>
+        ensures none { IsNone result ↔ IsZero self.now }
+        ensures some { (d : ℕ) → (result ≡ Some d) ↔ HasDegree self.now d }
+    {
+        places_of(&self.coefficients, self.places).checked_sub(1)
+    }
+
+    pub fn value_at(&self, x: Fe) -> Fe
+        ensures value { result ≡ value self.now x }
+        ensures below { result < MODULUS }
+    {
+        value_of(&self.coefficients[..self.places], x)
+    }
+
+    /// Multiplies by (x - a).
+    pub fn times_linear(&mut self, a: Fe)
+        requires { HasDegreeBelow self.old (length self.old - 1) }
+        ensures room { length self.new ≡ length self.old }
+        ensures product { IsLinearMultiple self.new self.old a 0 }
+    {
+        let places = self.coefficients.len().min(self.places + 1);
+        times_linear_all(&mut self.coefficients, places, a);
+        self.places = places;
+    }
+
+    /// Takes off c · x^shift · other.
+    pub fn take_off(&mut self, c: Fe, shift: usize, other: &Poly)
+        requires { (c ≡ 0) ⊎ HasDegreeBelow other.now (length self.old - shift) }
+        ensures room { length self.new ≡ length self.old }
+        ensures taken { TakesOff self.old self.new c shift other.now }
+    {
+        let other = &other.coefficients[..other.places];
+        self.places = take_off_all(&mut self.coefficients, self.places, c, shift, other);
+    }
+
+    /// Divides by (x - a): it becomes the quotient, and the answer is the remainder.
+    pub fn divide_linear(&mut self, a: Fe) -> Fe
+        ensures room { length self.new ≡ length self.old }
+        ensures remainder { result ≡ value self.old a }
+        ensures quotient { IsLinearMultiple self.old self.new a result }
+        ensures below { result < MODULUS }
+    {
+        divide_all(&mut self.coefficients, self.places, a)
+    }
+
+    // Makes it the polynomial 1.
+    fn set_one(&mut self)
+        requires { 0 < length self.old }
+        ensures room { length self.new ≡ length self.old }
+        ensures one { slice_index self.new 0 ≡ 1 }
+        ensures below { HasDegreeBelow self.new 1 }
+    {
+        self.clear();
+        self.set_coefficient(0, Fe::ONE);
+    }
+
+    /// Makes it the product of the (x - a) over the list.
+    pub fn vanishing(&mut self, xs: &[Fe])
+        requires { length xs.now < length self.old }
+        ensures room { length self.new ≡ length self.old }
+        ensures product { SameCoefficients self.new (vanishing_of xs.now) }
+    {
+        self.set_one();
+        for i in (0..xs.len()).rev() {
+            let _room = self.room();
+            self.times_linear(xs[i]);
+        }
+    }
+
+    /// Makes it the polynomial of degree below n through the n points. It goes through one point
+    /// after the other (Newton). What `work` holds then is not said.
+    pub fn interpolate(&mut self, work: &mut Poly, xs: &[Fe], ys: &[Fe])
+        requires distinct { AreDistinct xs.now }
+        requires pairs { length xs.now ≡ length ys.now }
+        requires room { length xs.now < length self.old }
+        requires work_room { length xs.now < length work.old }
+        ensures room { length self.new ≡ length self.old }
+        ensures work_room { length work.new ≡ length work.old }
+        ensures values { PassesThrough self.new xs.now ys.now }
+        ensures below { HasDegreeBelow self.new (length xs.now) }
+    {
+        known(xs);
+        known(ys);
+        self.clear();
+        work.set_one();
+        for i in 0..xs.len() {
+            self.pass_through(work, xs[i], ys[i]);
+        }
+    }
+    /// Brings it through one more point, and `work` to vanish there too. Where `work` vanishes
+    /// already, the values stay: this is the step of [`Poly::interpolate`].
+    pub fn pass_through(&mut self, work: &mut Poly, x: Fe, y: Fe)
+        requires off { value work.old x ≢ 0 }
+        requires room { HasDegreeBelow work.old (length self.old) }
+        requires work_room { HasDegreeBelow work.old (length work.old - 1) }
+        ensures room { length self.new ≡ length self.old }
+        ensures work_room { length work.new ≡ length work.old }
+        ensures passes { value self.new x ≡ y }
+        ensures keeps { (z : ℕ) → value work.old z ≡ 0 → value self.new z ≡ value self.old z }
+        ensures work { IsLinearMultiple work.new work.old x 0 }
+        ensures below { (n : ℕ) → HasDegreeBelow work.old n → HasDegreeBelow self.old n → HasDegreeBelow self.new n }
+    {
+        let _room = self.room();
+        let _below = y.value();
+        if let Some(inverse) = work.value_at(x).inverse() {
+            let c = self.value_at(x).sub(y).mul(inverse);
+            self.take_off(c, 0, work);
+            work.times_linear(x);
+        }
+    }
+}
