@@ -19,7 +19,7 @@ wanted() {
     fi
 }
 
-usage='usage: star_tool check'
+usage='usage: star_tool check | selftest'
 none='records=0 good=0 refused=0'
 
 "$program" </dev/null >"$scratch/out" 2>"$scratch/err"
@@ -51,6 +51,11 @@ wanted "a byte more" 5 "" "too many"
 : >"$scratch/err"
 yes abcdefghijklmnopqrstuvwxyz | head -c 5000000 | "$program" check >"$scratch/out" 2>"$scratch/err"
 wanted "text" 0 "$(printf '0 refused CutRecord 4999996\nrecords=1 good=0 refused=1')" ""
+
+"$program" selftest <&- >"$scratch/out" 2>"$scratch/err"
+wanted "the self test" 0 "$(printf 'vector %s ok\n' 1 2 3 4 5; echo 'vectors=5 ok=5')" ""
+"$program" selftest x </dev/null >"$scratch/out" 2>"$scratch/err"
+wanted "a word after selftest" 2 "" "$usage"
 
 echo "$passed passed, $failed failed"
 [ "$failed" -eq 0 ]

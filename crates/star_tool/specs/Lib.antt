@@ -2,4 +2,5 @@ pub mod Words
 pub mod Status
 pub mod Text
 pub mod Stream
+pub mod SelfTest
 pub mod Run

@@ -2,6 +2,8 @@
 #![tactic(auto)]
 
 mod run;
+mod self_test;
+mod self_test_text;
 mod status;
 mod stream;
 mod text;
@@ -9,6 +11,7 @@ mod words;
 
 use recovery_pool::NoGate;
 pub use run::run;
+pub use self_test_text::self_test_text;
 use star_io::{MemorySource, NoMemory, Sink, StdSink, StdSource};
 pub use status::{Status, status_line, status_number};
 use std::alloc::Global;

@@ -170,12 +170,39 @@ fn one_record_too_many_is_refused(rt: HostRuntime) -> Result<(), Fail> {
 }
 
 #[test]
+fn selftest_prints_each_vector_and_reads_nothing(rt: HostRuntime) -> Result<(), Fail> {
+    let alloc = rt.alloc();
+    let wanted =
+        b"vector 1 ok\nvector 2 ok\nvector 3 ok\nvector 4 ok\nvector 5 ok\nvectors=5 ok=5\n";
+    let mut input = MemorySource::new(vec![in alloc; 0; 4]?, Vec::new(alloc), Vec::new(alloc));
+    let mut out = MemorySink::new(alloc, 1000, Vec::new(alloc))?;
+    assert_eq!(rt;
+        status_of(&rt, alloc, &["selftest"], &mut input, &mut out)?,
+        Status::Done
+    );
+    assert_eq!(rt; input.calls(), 0);
+    assert_eq!(rt; out.told(), wanted.as_slice());
+
+    let mut fails = Vec::new(alloc);
+    fails.push(FailAt { call: 0, after: 9 })?;
+    let mut out = MemorySink::new(alloc, 1000, fails)?;
+    assert_eq!(rt;
+        status_of(&rt, alloc, &["selftest"], &mut input, &mut out)?,
+        Status::WriteFault
+    );
+    assert_eq!(rt; out.told(), b"vector 1 ".as_slice());
+    Ok(())
+}
+
+#[test]
 fn faulty_words_touch_nothing(rt: HostRuntime) -> Result<(), Fail> {
     let alloc = rt.alloc();
-    let cases: [&[&str]; 6] = [
+    let cases: [&[&str]; 8] = [
         &[],
         &["look"],
         &["check", "x"],
+        &["selftest", "x"],
+        &["selftests"],
         &["Check"],
         &[""],
         &["reveal", "--epoch", "7"],
@@ -224,11 +251,20 @@ fn each_status_has_its_number_and_line(rt: HostRuntime) -> Result<(), Fail> {
     let alloc = rt.alloc();
     let cases = [
         (Status::Done, 0, ""),
-        (Status::Usage, 2, "usage: star_tool check\n"),
+        (Status::Usage, 2, "usage: star_tool check | selftest\n"),
         (Status::ReadFault, 3, "read fault\n"),
         (Status::WriteFault, 4, "write fault\n"),
         (Status::TooMany, 5, "too many\n"),
         (Status::NoMemory, 6, "no memory\n"),
+        (
+            Status::BadVector {
+                number: 5,
+                got: [1; 32],
+                wanted: [0; 32],
+            },
+            9,
+            "vector 5 differs\n",
+        ),
     ];
     for (status, number, line) in cases {
         assert_eq!(rt; status_number(&status), number);

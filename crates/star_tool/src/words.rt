@@ -48,6 +48,8 @@ impl Words {
 pub enum Command {
     /// Reads a stream of records, and prints a line for each.
     Check,
+    /// Computes the vectors of the self test, and prints a line for each.
+    SelfTest,
 }
 
 /// Why words give no command.
@@ -67,6 +69,8 @@ pub fn words_of(_alloc: Global, words: &Words) -> Result<Command, WordsError>
         [verb] => {
             if verb.as_str() == "check" {
                 Ok(Command::Check)
+            } else if verb.as_str() == "selftest" {
+                Ok(Command::SelfTest)
             } else {
                 Err(WordsError::Usage)
             }
