@@ -2,11 +2,7 @@
 use Rattle.std.proofs.Common.{ℕ, zero, suc, ◌+◌, ◌<◌, ◌≤◌, ◌≡◌, refl, arith, Bool, true, false, cond}
 use mathlib.Core.Bool.{◌&&◌, not}
 use Rattle.std.proofs.lemmas.Bool.{false≢true}
-
--- at how many of the first n indices the test passes
-abbrev pub count_to : ℕ → (ℕ → Bool) → ℕ
-count_to zero p = 0
-count_to (suc n) p = cond (p 0) 1 0 + count_to n (λ i. p (suc i))
+use Rattle.poly61.specs.Counts.{count_to}
 
 pub count_to-le : (n : ℕ) (p : ℕ → Bool) → count_to n p ≤ n
 count_to-le zero p = omega arith

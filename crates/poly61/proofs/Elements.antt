@@ -2,7 +2,7 @@
 use Rattle.std.proofs.Common.{ℕ, suc, ◌+◌, ◌<◌, ◌≡◌, ◌⊎◌, ◌∙◌, sym, ap, arith, inl, inr}
 use Rattle.field61.specs.declared.TheConstants.{MODULUS}
 use Rattle.field61.specs.Field.{field_sum, field_product, field_negative, field_difference, field_power}
-use Rattle.field61.proofs.FieldLaws.{product_below, sum_zero, zero_sum, sum_negative, product_zero, zero_product, product_commutes, one_product, product_cancels, negative_product, difference_is_sum, difference_zero, difference_is_zero, modulus_positive, power_next}
+use Rattle.field61.proofs.FieldLaws.{product_below, sum_zero, zero_sum, sum_associates, sum_negative, product_zero, zero_product, product_commutes, one_product, product_cancels, negative_product, difference_is_sum, difference_zero, difference_is_zero, modulus_positive, power_next}
 
 pub zero_sum_zero : field_sum 0 0 ≡ 0
 zero_sum_zero = sum_zero 0 modulus_positive
@@ -31,6 +31,10 @@ zero_factor c o (inr e) = rw e (product_zero c)
 -- a product with a factor 0 takes nothing off
 pub nothing_taken : (x c o : ℕ) → x < MODULUS → (c ≡ 0) ⊎ (o ≡ 0) → field_difference x (field_product c o) ≡ x
 nothing_taken x c o below factor = ap (field_difference x) (zero_factor c o factor) ∙ difference_zero x below
+
+-- what was added is taken off again
+pub taken_back : (o p : ℕ) → o < MODULUS → o ≡ field_difference (field_sum o p) p
+taken_back o p below = sym (difference_is_sum (field_sum o p) p ∙ sum_associates o p (field_negative p) ∙ ap (field_sum o) (sum_negative p) ∙ sum_zero o below)
 
 pub one_is_not_zero : (x : ℕ) → x ≡ 1 → x ≡ 0 → ⊥
 one_is_not_zero x one none = absurd (omega arith)

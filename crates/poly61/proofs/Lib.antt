@@ -1,4 +1,4 @@
-mod Elements
+pub mod Elements
 pub mod Places
 pub mod Counts
 pub mod Roots

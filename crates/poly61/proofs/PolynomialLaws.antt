@@ -7,13 +7,13 @@ use Rattle.field61.specs.declared.TheConstants.{MODULUS}
 use Rattle.field61.specs.Field.{field_product, field_power, AreElements}
 use Rattle.field61.proofs.FieldLaws.{modulus_positive}
 use Rattle.poly61.specs.Poly.{value, field_total, HasDegree, HasDegreeBelow, SameCoefficients, AreDistinct}
-use Rattle.poly61.specs.Vanishing.{vanishing_of, difference_product}
+use Rattle.poly61.specs.Vanishing.{vanishing_of, difference_product, IsVanishingMultiple}
 use Rattle.poly61.proofs.Elements.{one_is_not_zero}
 use Rattle.poly61.proofs.Places.{value_to-sum, IsBounded}
 use Rattle.poly61.proofs.Counts.{count_to-all}
 use Rattle.poly61.proofs.Roots.{AreApart, root_count, few_roots, same_from_agreement}
 use Rattle.poly61.proofs.Lists.{coefficient_of, AreElements-bounded, value-value_to, value-places}
-use Rattle.poly61.proofs.Products.{value-vanishing_of, vanishing_of-below, vanishing_of-top, vanishing_of-root}
+use Rattle.poly61.proofs.Products.{value-vanishing_of, vanishing_of-below, vanishing_of-top, vanishing_of-root, vanishing_multiple}
 
 pub value_is_sum : (f : List ℕ) (x : ℕ) → AreElements f → value f x ≡ field_total (length f) (λ i. field_product (get_or f i 0) (field_power x i))
 value_is_sum f x elements = value-value_to f x ∙ value_to-sum (length f) (coefficient_of f) x (AreElements-bounded f elements)
@@ -54,3 +54,7 @@ vanishing_degree xs = (record { top = λ none. one_is_not_zero _ (vanishing_of-t
 
 pub vanishing_vanishes : (xs : List ℕ) → All (λ x. value (vanishing_of xs) x ≡ 0) xs
 vanishing_vanishes xs = All-from_get_or (λ x. value (vanishing_of xs) x ≡ 0) xs 0 (vanishing_of-root xs)
+
+pub vanishing_divides : (f xs : List ℕ) → AreElements f → AreElements xs → AreDistinct xs → All (λ x. value f x ≡ 0) xs → IsVanishingMultiple f xs
+vanishing_divides f xs f_elements xs_elements distinct roots =
+    vanishing_multiple xs f f_elements (AreElements-bounded xs xs_elements) distinct (λ i within. All-get_or (λ x. value f x ≡ 0) xs i 0 within roots)

@@ -8,7 +8,8 @@ use Rattle.field61.specs.Field.{field_sum, field_product, field_negative, field_
 use Rattle.field61.proofs.FieldLaws.{sum_below, difference_below, sum_difference, difference_is_zero}
 use Rattle.poly61.proofs.Elements.{minus_self, minus_is_zero, other_factor, zero_sum_product}
 use Rattle.poly61.proofs.Places.{tail, value_to, value_to-below, value_to-plus, quotient_of, quotient_of-below, factor, head_zero, zero_from_quotient, IsBounded}
-use Rattle.poly61.proofs.Counts.{count_to, count_to-grows}
+use Rattle.poly61.specs.Counts.{count_to}
+use Rattle.poly61.proofs.Counts.{count_to-grows}
 
 -- the first n numbers are distinct
 abbrev pub AreApart : ℕ → (ℕ → ℕ) → Type 0

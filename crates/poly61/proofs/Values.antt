@@ -4,9 +4,9 @@ use Rattle.std.proofs.lemmas.Bool.{cases_lt}
 use Rattle.std.proofs.lemmas.List.{get_or-drop}
 use Rattle.field61.specs.declared.TheConstants.{MODULUS}
 use Rattle.field61.specs.Field.{field_sum, field_product, field_negative, field_difference, field_power, AreElements}
-use Rattle.field61.proofs.FieldLaws.{power_zero, modulus_positive, modulus_above_one, sum_associates, sum_commutes, sum_zero, sum_cancels, sum_negative, product_zero, zero_product, product_one, one_product, product_commutes, product_associates, product_distributes_right, negative_product, difference_is_sum, sum_difference, difference_self, difference_is_zero, difference_below}
+use Rattle.field61.proofs.FieldLaws.{power_zero, modulus_positive, modulus_above_one, sum_associates, sum_commutes, sum_zero, sum_cancels, product_zero, zero_product, product_one, one_product, product_commutes, product_associates, product_distributes_right, negative_product, difference_is_sum, sum_difference, difference_self, difference_is_zero, difference_below}
 use Rattle.poly61.specs.Poly.{value, IsZero, HasDegree, HasDegreeBelow, IsLinearMultiple, TakesOff}
-use Rattle.poly61.proofs.Elements.{difference-product, nothing_taken, other_factor, zero_sum_product}
+use Rattle.poly61.proofs.Elements.{difference-product, taken_back, nothing_taken, other_factor, zero_sum_product}
 use Rattle.poly61.proofs.Places.{IsZeroFrom, value_to, value_to-same, value_to-plus, shifted-at, shifted-low, plus_multiple, value_to-plus_multiple}
 use Rattle.poly61.proofs.Lists.{coefficient_of, coefficient_of-past, AreElements-bounded, value-room, value-places, value-below}
 
@@ -114,16 +114,14 @@ newton_passes old new work c x y inverse elements y_below is one taken =
     ∙ newton (value old x) y (value work x) inverse (value-below old x) y_below (value-below work x) one
 
 -- a quotient by (x - a), read as a product
-back : (o a n q : ℕ) → o < MODULUS → n < MODULUS → q ≡ field_sum o (field_product a n) → o ≡ field_difference q (field_product a n)
-back o a n q o_below n_below is =
-    sym (ap (λ y. field_difference y (field_product a n)) is ∙ difference_is_sum (field_sum o (field_product a n)) (field_product a n)
-    ∙ sum_associates o (field_product a n) (field_negative (field_product a n)) ∙ ap (field_sum o) (sum_negative (field_product a n)) ∙ sum_zero o o_below)
+back : (o a n q : ℕ) → o < MODULUS → q ≡ field_sum o (field_product a n) → o ≡ field_difference q (field_product a n)
+back o a n q o_below is = taken_back o (field_product a n) o_below ∙ ap (λ y. field_difference y (field_product a n)) (sym is)
 
-pub IsLinearMultiple-quotient : (f quotient : List ℕ) (a rest : ℕ) → AreElements f → AreElements quotient → rest ≡ field_sum (get_or f 0 0) (field_product a (get_or quotient 0 0)) →
+pub IsLinearMultiple-quotient : (f quotient : List ℕ) (a rest : ℕ) → AreElements f → rest ≡ field_sum (get_or f 0 0) (field_product a (get_or quotient 0 0)) →
     ((i : ℕ) → get_or quotient i 0 ≡ field_sum (get_or f (i + 1) 0) (field_product a (get_or quotient (i + 1) 0))) → IsLinearMultiple f quotient a rest
-IsLinearMultiple-quotient f quotient a rest elements small first next zero = back (get_or f 0 0) a (get_or quotient 0 0) rest (AreElements-bounded f elements 0) (AreElements-bounded quotient small 0) first
-IsLinearMultiple-quotient f quotient a rest elements small first next (suc i) =
-    back (get_or f (suc i) 0) a (get_or quotient (suc i) 0) (get_or quotient i 0) (AreElements-bounded f elements (suc i)) (AreElements-bounded quotient small (suc i))
+IsLinearMultiple-quotient f quotient a rest elements first next zero = back (get_or f 0 0) a (get_or quotient 0 0) rest (AreElements-bounded f elements 0) first
+IsLinearMultiple-quotient f quotient a rest elements first next (suc i) =
+    back (get_or f (suc i) 0) a (get_or quotient (suc i) 0) (get_or quotient i 0) (AreElements-bounded f elements (suc i))
     (next i ∙ ap (λ j. field_sum (get_or f j 0) (field_product a (get_or quotient j 0))) {x = i + 1} {y = suc i} (omega arith))
 
 -- past the places of the product

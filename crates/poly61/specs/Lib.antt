@@ -1,2 +1,3 @@
+pub mod Counts
 pub mod Poly
 pub mod Vanishing

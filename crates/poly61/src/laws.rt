@@ -4,7 +4,7 @@ ghost use Rattle.std.specs.Prelude.{◌≡◌, ℕ, ◌<◌, ◌≤◌, ◌+◌,
 ghost use Rattle.field61.specs.Field.{field_product, field_power, AreElements};
 ghost use Rattle.field61.specs.declared.TheConstants.{MODULUS};
 ghost use Rattle.poly61.specs.Poly.{value, field_total, HasDegree, HasDegreeBelow, SameCoefficients, AreDistinct};
-ghost use Rattle.poly61.specs.Vanishing.{vanishing_of, difference_product};
+ghost use Rattle.poly61.specs.Vanishing.{vanishing_of, difference_product, IsVanishingMultiple};
 
 /// The value at x is the sum of the c_i · x^i.
 #[tactic(auto, using(crate::proofs::PolynomialLaws::value_is_sum))]
@@ -52,4 +52,11 @@ pub fn vanishing_degree()
 #[tactic(auto, using(crate::proofs::PolynomialLaws::vanishing_vanishes))]
 pub fn vanishing_vanishes()
     ensures { (xs : List ℕ) → All (λ x. value (vanishing_of xs) x ≡ 0) xs }
+{}
+
+/// A polynomial that vanishes at distinct points is a multiple of the product of the (x - a).
+#[tactic(auto, using(crate::proofs::PolynomialLaws::vanishing_divides))]
+pub fn vanishing_divides()
+    ensures { (f xs : List ℕ) → AreElements f → AreElements xs → AreDistinct xs →
+        All (λ x. value f x ≡ 0) xs → IsVanishingMultiple f xs }
 {}

@@ -37,5 +37,5 @@ pub returns-clause-quotient : goal.returns-clause-quotient
 returns-clause-quotient c =
     let inv = c.loop-i.invariant in
     let end : c.loop-i.i ≡ 0 = omega arith in
-    IsLinearMultiple-quotient c.args.coefficients.now c.loop-i.coefficients c.args.a c.loop-i.carry c.requires.elements inv.elements
+    IsLinearMultiple-quotient c.args.coefficients.now c.loop-i.coefficients c.args.a c.loop-i.carry c.requires.elements
     (subst (λ i. c.loop-i.carry ≡ field_sum (get_or c.args.coefficients.now i 0) (field_product c.args.a (get_or c.loop-i.coefficients i 0))) end inv.next) (λ i. inv.done i (omega arith))

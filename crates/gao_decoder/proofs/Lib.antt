@@ -1,0 +1,5 @@
+pub mod Steps
+pub mod Forwards
+pub mod Counting
+pub mod Choice
+pub mod Decoded

@@ -1,0 +1,3 @@
+pub mod Decoding
+pub mod Sequence
+pub mod Choosing

@@ -1,0 +1,17 @@
+//! Unique decoding of a polynomial from points of which some are wrong, by a stopped remainder
+//! sequence (Gao, "A new algorithm for decoding Reed-Solomon codes", 2003).
+#![tactic(auto)]
+
+mod choosing;
+mod decoder;
+pub mod laws;
+mod scratch;
+mod sequence;
+
+pub use decoder::decode;
+pub use scratch::Scratch;
+
+#[cfg(test)]
+mod table;
+#[cfg(test)]
+mod tests;

@@ -1,0 +1,139 @@
+// Tables of points, decoded.
+ghost use Rattle.std.specs.Prelude.{◌≡◌, ◌<◌, ◌+◌, ◌^◌, ℕ, length, slice_index, IfOk};
+
+use crate::{Scratch, decode};
+use field61::Fe;
+use poly61::Poly;
+use star_io::NoMemory;
+use std::alloc::Global;
+use std::test::Fail;
+
+// The points 1, 2, .. n.
+fn points(alloc: Global, n: usize) -> Result<Vec<Fe>, NoMemory>
+    requires { n < 2 ^ 32 }
+    ensures length { IfOk result (λ xs. length xs.items ≡ n) }
+    ensures places { IfOk result (λ xs. (i : ℕ) → i < n → slice_index xs.items i ≡ i + 1) }
+{
+    let mut xs = Vec::new(alloc);
+    for i in 0..n {
+        xs.push(Fe::new(i as u64 + 1).unwrap_or(Fe::ZERO))?;
+    }
+    Ok(xs)
+}
+
+// The values at the points of the polynomial with the coefficients s, s^2, .. s^k. The first of them are wrong: the
+// value at x is off by x.
+fn values(alloc: Global, xs: &[Fe], s: Fe, k: usize, wrong: usize) -> Result<Vec<Fe>, NoMemory>
+    ensures { IfOk result (λ ys. length ys.items ≡ length xs.now) }
+{
+    let mut f = Poly::with_room(alloc, k)?;
+    'coefficients: for i in 0..k {
+        f.set_coefficient(i, s.pow(i as u64 + 1));
+    }
+    let mut ys = Vec::new(alloc);
+    'values: for i in 0..xs.len() {
+        let off = if i < wrong { xs[i] } else { Fe::ZERO };
+        ys.push(f.value_at(xs[i]).add(off))?;
+    }
+    Ok(ys)
+}
+
+// The value at 1000 of what is decoded, where something is.
+fn decoded_at_1000(alloc: Global, xs: &[Fe], ys: &[Fe], k: usize) -> Result<Option<u64>, Fail>
+    requires places { (i : ℕ) → i < length xs.now → slice_index xs.now i ≡ i + 1 }
+    requires pairs { length xs.now ≡ length ys.now }
+{
+    if k == 0 || xs.len() < k || xs.len() > 4096 {
+        return Err("a threshold".into());
+    }
+    let mut scratch = Scratch::new(alloc, xs.len())?;
+    let mut out = Poly::with_room(alloc, k)?;
+    let far = Fe::new(1000).ok_or("a point")?;
+    if decode(&mut scratch, xs, ys, k, &mut out) {
+        Ok(Some(out.value_at(far).value()))
+    } else {
+        Ok(None)
+    }
+}
+
+// 0 at the first points, and 1 at the others.
+fn halves(alloc: Global, xs: &[Fe], zeros: usize) -> Result<Vec<Fe>, NoMemory>
+    ensures { IfOk result (λ ys. length ys.items ≡ length xs.now) }
+{
+    let mut ys = Vec::new(alloc);
+    'halves: for i in 0..xs.len() {
+        ys.push(if i < zeros { Fe::ZERO } else { Fe::ONE })?;
+    }
+    Ok(ys)
+}
+
+// 60 of 81 points on a constant are one too few for k = 40.
+#[test]
+fn two_halves_of_81_points(rt: HostRuntime) -> Result<(), Fail> {
+    let alloc = rt.alloc();
+    let xs = points(alloc, 81)?;
+    for (zeros, wanted) in [(60, None), (61, Some(0))] {
+        let ys = halves(alloc, &xs, zeros)?;
+        assert_eq!(rt; decoded_at_1000(alloc, &xs, &ys, 40)?, wanted);
+    }
+    Ok(())
+}
+
+// Each row has n, k, s, how many values are wrong, and what another program decodes: at most (n - k) / 2 wrong values
+// leave the polynomial, and one more mostly leaves none.
+#[test]
+fn agrees_with_another_decoder(rt: HostRuntime) -> Result<(), Fail> {
+    let alloc = rt.alloc();
+    let rows: [(usize, usize, u64, usize, Option<u64>); 37] = [
+        (1, 1, 1666663093894643818, 0, Some(1666663093894643818)),
+        (1, 1, 1813958876109625917, 1, Some(1813958876109625918)),
+        (2, 1, 2029058037003187020, 0, Some(2029058037003187020)),
+        (2, 1, 348655647859207702, 1, None),
+        (2, 2, 1554160760719150381, 0, Some(1663346660319783760)),
+        (2, 2, 1958445007408918067, 1, Some(822463168577394069)),
+        (5, 2, 234081133177505144, 0, Some(988685439655626365)),
+        (5, 2, 754994510660104116, 1, Some(834265010981128793)),
+        (5, 2, 2087779486172724548, 2, None),
+        (9, 4, 62211743016574163, 0, Some(359385305238678568)),
+        (9, 4, 937879181127684950, 1, Some(505920219906777895)),
+        (9, 4, 172957044493265669, 2, Some(223249622816159064)),
+        (9, 4, 288408334270100155, 3, None),
+        (16, 16, 1093904587996469870, 0, Some(472414904439530604)),
+        (16, 16, 1338923554295890777, 1, Some(2115155845403705696)),
+        (20, 3, 949965416829808030, 0, Some(655118150374361018)),
+        (20, 3, 460744687748792660, 4, Some(1988446568087113072)),
+        (20, 3, 1442013250695765649, 8, Some(1838238642945338578)),
+        (20, 3, 1571009245898103753, 9, None),
+        (33, 10, 758025552675722880, 0, Some(1418514132703871856)),
+        (33, 10, 213807635653737722, 5, Some(1489602994302251714)),
+        (33, 10, 1194079899727422296, 11, Some(23098057014001592)),
+        (33, 10, 1940698164616680116, 12, None),
+        (47, 30, 933711920735397866, 0, Some(1525704254924377084)),
+        (47, 30, 475795249040127081, 4, Some(1677663113565440766)),
+        (47, 30, 559495247399084830, 8, Some(1824662710144662137)),
+        (47, 30, 465356352302882947, 9, None),
+        (60, 1, 193117724492351972, 0, Some(193117724492351972)),
+        (60, 1, 584353404067378699, 14, Some(584353404067378699)),
+        (60, 1, 1762656144624790218, 29, Some(1762656144624790218)),
+        (60, 1, 703428422106457629, 30, None),
+        (60, 20, 592100968870721072, 0, Some(1449111751322746315)),
+        (60, 20, 1438747004717057254, 10, Some(858921602071700902)),
+        (60, 20, 2088373770252280344, 20, Some(607196093073597797)),
+        (60, 20, 616936008805116809, 21, None),
+        (60, 59, 539474219263475157, 0, Some(728709602829336718)),
+        (60, 59, 1939596239447182916, 1, None),
+    ];
+    for (n, k, s, wrong, wanted) in rows {
+        if n > 60 {
+            return Err("too many points".into());
+        }
+        let xs = points(alloc, n)?;
+        let ys = values(alloc, &xs, Fe::new(s).ok_or("an element")?, k, wrong)?;
+        assert_eq!(rt;
+            decoded_at_1000(alloc, &xs, &ys, k)?,
+            wanted,
+            "{n} {k} {wrong}"
+        );
+    }
+    Ok(())
+}
