@@ -1,0 +1,4 @@
+pub mod Filling
+pub mod Keystreams
+pub mod Opening
+pub mod Spelt

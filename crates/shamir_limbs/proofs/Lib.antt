@@ -1,0 +1,2 @@
+pub mod LimbLaws
+pub mod LowBytes

@@ -1,0 +1,15 @@
+//! Keys of 16 bytes, the three limbs of each, and its shares: points of three polynomials whose
+//! values at 0 are the limbs.
+#![tactic(auto)]
+
+mod coefficients;
+mod key;
+pub mod laws;
+mod share;
+
+pub use coefficients::Coefficients;
+pub use key::{Key, key_of, limbs_of};
+pub use share::{Point, share_at};
+
+#[cfg(test)]
+mod tests;

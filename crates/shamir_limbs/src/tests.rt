@@ -1,0 +1,67 @@
+use super::*;
+use field61::Fe;
+use star_io::NoMemory;
+
+fn element(n: u64) -> Fe {
+    Fe::new(n).unwrap_or(Fe::ZERO)
+}
+
+#[test]
+fn a_key_and_its_limbs(rt: HostRuntime) {
+    let cases: [([u8; 16], [u64; 3]); 3] = [
+        (
+            *b"\x00\x01\x02\x03\x04\x05\x06\x07\x08\x09\x0a\x0b\x0c\x0d\x0e\x0f",
+            [4328719365, 25887770890, 47446822415],
+        ),
+        ([0xff; 16], [281474976710655, 1099511627775, 1099511627775]),
+        ([0; 16], [0, 0, 0]),
+    ];
+    for (bytes, numbers) in cases {
+        let key = Key { bytes };
+        let limbs = limbs_of(&key);
+        assert_eq!(rt; limbs.map(Fe::value), numbers);
+        assert_eq!(rt; key_of(&limbs), Some(key));
+    }
+}
+
+#[test]
+fn one_bit_too_many_is_no_limb(rt: HostRuntime) {
+    let cases: [[u64; 3]; 3] = [
+        [281474976710656, 0, 0],
+        [0, 1099511627776, 0],
+        [0, 0, 1099511627776],
+    ];
+    for numbers in cases {
+        let numbers = numbers.map(element);
+        assert_eq!(rt; key_of(&numbers), None);
+    }
+}
+
+// The values that Python's integers give modulo 2^61 - 1.
+#[test]
+fn the_share_of_three_polynomials(rt: HostRuntime) -> Result<(), NoMemory> {
+    let key = Key {
+        bytes: *b"\x00\x01\x02\x03\x04\x05\x06\x07\x08\x09\x0a\x0b\x0c\x0d\x0e\x0f",
+    };
+    let mut coefficients = Coefficients::of(rt.alloc(), &key, 3)?;
+    coefficients.set(0, 1, element(5));
+    coefficients.set(0, 2, element(2305843009213693950));
+    coefficients.set(1, 2, element(7));
+    coefficients.set(2, 1, element(1152921504606846976));
+    let cases: [(u64, [u64; 3]); 4] = [
+        (0, [4328719365, 25887770890, 47446822415]),
+        (2, [4328719371, 25887770918, 47446822416]),
+        (
+            123456789012345678,
+            [459090238806921202, 1107355999972456761, 61728441952995254],
+        ),
+        (
+            2305843009213693950,
+            [4328719359, 25887770897, 1152921552053669390],
+        ),
+    ];
+    for (x, y) in cases {
+        assert_eq!(rt; share_at(&coefficients, element(x)).map(Fe::value), y);
+    }
+    Ok(())
+}
