@@ -1,2 +1,4 @@
+pub mod KeyLines
 pub mod LimbLaws
 pub mod LowBytes
+pub mod OnAll

@@ -4,11 +4,15 @@
 
 mod coefficients;
 mod key;
+mod key_work;
 pub mod laws;
+mod recovery;
 mod share;
 
 pub use coefficients::Coefficients;
 pub use key::{Key, key_of, limbs_of};
+pub use key_work::KeyWork;
+pub use recovery::{Recovered, recover};
 pub use share::{Point, share_at};
 
 #[cfg(test)]

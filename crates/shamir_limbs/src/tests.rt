@@ -1,3 +1,6 @@
+ghost use Rattle.std.specs.Prelude.{◌≡◌, ◌<◌};
+ghost use Rattle.field61.specs.declared.TheConstants.{MODULUS};
+
 use super::*;
 use field61::Fe;
 use star_io::NoMemory;
@@ -62,6 +65,42 @@ fn the_share_of_three_polynomials(rt: HostRuntime) -> Result<(), NoMemory> {
     ];
     for (x, y) in cases {
         assert_eq!(rt; share_at(&coefficients, element(x)).map(Fe::value), y);
+    }
+    Ok(())
+}
+
+fn point(x: u64, y: [u64; 3]) -> Point
+    requires { x < MODULUS }
+    ensures { result.x ≡ x }
+{
+    Point {
+        x: Fe::new(x).unwrap_or(Fe::ZERO),
+        y: y.map(element),
+    }
+}
+
+// Each row has the y of the second limb. The first limb is on 2x + 3 but at x = 1, and the third is 5. The second limb
+// of the last row has a bit too many.
+#[test]
+fn the_key_of_four_points(rt: HostRuntime) -> Result<(), NoMemory> {
+    let mut work = KeyWork::new(rt.alloc(), 4)?;
+    assert_eq!(rt; work.room(), 4);
+    let key = Key {
+        bytes: *b"\x00\x00\x00\x00\x00\x03\x00\x00\x00\x00\x01\x00\x00\x00\x00\x05",
+    };
+    let cases: [([u64; 4], Option<Recovered>); 3] = [
+        ([2, 3, 4, 5], Some(Recovered { key, agree: 3 })),
+        ([2, 9, 4, 5], None),
+        ([1 << 40, 1 << 40, 1 << 40, 1 << 40], None),
+    ];
+    for (second, wanted) in cases {
+        let points = [
+            point(1, [6, second[0], 5]),
+            point(2, [7, second[1], 5]),
+            point(3, [9, second[2], 5]),
+            point(4, [11, second[3], 5]),
+        ];
+        assert_eq!(rt; recover(&mut work, &points, 2), wanted);
     }
     Ok(())
 }

@@ -1,0 +1,175 @@
+ghost use Rattle.std.specs.Prelude.{◌≡◌, ℕ, ◌+◌, ◌*◌, ◌^◌, ◌<◌, ◌≤◌, ◌↔◌, List, length, vec_capacity, IsTrue, IsSome, IfSome, IsSomeAnd};
+ghost use Rattle.poly61.specs.Poly.{SameCoefficients, AreDistinct};
+ghost use Rattle.gao_decoder.specs.Decoding.{IsDecoded};
+ghost use Rattle.shamir_limbs.specs.Limbs.{AreLimbs};
+ghost use Rattle.shamir_limbs.specs.KeyLine.{xs_of, ys_of, is_on_all, agreement_of_all, values_at_zero, IsKeyLine, IsRecoveredFrom};
+
+use crate::key::{Key, key_of};
+use crate::key_work::KeyWork;
+use crate::share::Point;
+use field61::Fe;
+use gao_decoder::{Scratch, decode};
+use poly61::Poly;
+
+/// A key, and how many points lie on all three of its polynomials.
+#[derive(Clone, Copy, Debug, PartialEq, Eq)]
+pub struct Recovered {
+    pub key: Key,
+    pub agree: u32,
+}
+
+/// Finds the key whose limbs are the values at 0 of three polynomials of degree below k, where at
+/// least (n + k) / 2 of the n points lie on all three. There is at most one. Takes no memory.
+pub fn recover(work: &mut KeyWork, points: &[Point], k: usize) -> Option<Recovered>
+    requires distinct { AreDistinct (xs_of points.now) }
+    requires some { 1 ≤ k }
+    requires threshold { k ≤ length points.now }
+    requires work { length points.now ≤ work.old }
+    requires points { length points.now < 2 ^ 32 }
+    ensures work { work.new ≡ work.old }
+    ensures found { IfSome result (λ r. (q0 : List ℕ) × (q1 : List ℕ) × (q2 : List ℕ)
+        × IsKeyLine q0 q1 q2 points.now k × IsRecoveredFrom r q0 q1 q2 points.now) }
+    ensures only { (q0 q1 q2 : List ℕ) → IsKeyLine q0 q1 q2 points.now k
+        → IsSomeAnd result (λ r. IsRecoveredFrom r q0 q1 q2 points.now) }
+{
+    fill_xs(&mut work.xs, points);
+    let xs = &work.xs;
+    if !decode_limb(
+        &mut work.scratch,
+        xs,
+        &mut work.ys,
+        points,
+        0,
+        k,
+        &mut work.first,
+    ) {
+        return None;
+    }
+    if !decode_limb(
+        &mut work.scratch,
+        xs,
+        &mut work.ys,
+        points,
+        1,
+        k,
+        &mut work.second,
+    ) {
+        return None;
+    }
+    if !decode_limb(
+        &mut work.scratch,
+        xs,
+        &mut work.ys,
+        points,
+        2,
+        k,
+        &mut work.third,
+    ) {
+        return None;
+    }
+    key_through(&work.first, &work.second, &work.third, points, k)
+}
+
+// The key whose limbs are the values at 0, where enough of the points lie on all three polynomials.
+fn key_through(
+    first: &Poly,
+    second: &Poly,
+    third: &Poly,
+    points: &[Point],
+    k: usize,
+) -> Option<Recovered>
+    requires threshold { k ≤ length points.now }
+    requires points { length points.now < 2 ^ 32 }
+    ensures found { IsSome result
+        ↔ (AreLimbs (values_at_zero first.now second.now third.now)
+        × (length points.now + k ≤ 2 * agreement_of_all first.now second.now third.now points.now)) }
+    ensures from { IfSome result (λ r. IsRecoveredFrom r first.now second.now third.now points.now) }
+{
+    let key = key_of(&[
+        first.value_at(Fe::ZERO),
+        second.value_at(Fe::ZERO),
+        third.value_at(Fe::ZERO),
+    ])?;
+    let agree = agreement(first, second, third, points);
+    if agree as usize * 2 < points.len() + k {
+        return None;
+    }
+    Some(Recovered { key, agree })
+}
+
+// Makes xs the x of the points.
+fn fill_xs(xs: &mut Vec<Fe>, points: &[Point])
+    requires { length points.now ≤ vec_capacity xs.old }
+    ensures items { xs.new.items ≡ xs_of points.now }
+    ensures capacity { vec_capacity xs.new ≡ vec_capacity xs.old }
+{
+    xs.clear();
+    for i in 0..points.len() {
+        xs.push_reserved(points[i].x);
+    }
+}
+
+// Makes ys the y of the points for one limb.
+fn fill_ys(ys: &mut Vec<Fe>, points: &[Point], limb: usize)
+    requires limb { limb < 3 }
+    requires capacity { length points.now ≤ vec_capacity ys.old }
+    ensures items { ys.new.items ≡ ys_of points.now limb }
+    ensures capacity { vec_capacity ys.new ≡ vec_capacity ys.old }
+{
+    ys.clear();
+    for i in 0..points.len() {
+        let y = points[i].y;
+        ys.push_reserved(y[limb]);
+    }
+}
+
+// Decodes one limb.
+fn decode_limb(
+    scratch: &mut Scratch,
+    xs: &[Fe],
+    ys: &mut Vec<Fe>,
+    points: &[Point],
+    limb: usize,
+    k: usize,
+    out: &mut Poly,
+) -> bool
+    requires limb { limb < 3 }
+    requires xs { xs.now ≡ xs_of points.now }
+    requires distinct { AreDistinct (xs_of points.now) }
+    requires some { 1 ≤ k }
+    requires threshold { k ≤ length points.now }
+    requires scratch { length points.now ≤ scratch.old }
+    requires capacity { length points.now ≤ vec_capacity ys.old }
+    requires room { k ≤ length out.old }
+    ensures scratch { scratch.new ≡ scratch.old }
+    ensures capacity { vec_capacity ys.new ≡ vec_capacity ys.old }
+    ensures room { length out.new ≡ length out.old }
+    ensures found { IsTrue result → IsDecoded out.new (xs_of points.now) (ys_of points.now limb) k }
+    ensures complete { (f : List ℕ) → IsDecoded f (xs_of points.now) (ys_of points.now limb) k → IsTrue result }
+    ensures only { (f : List ℕ) → IsDecoded f (xs_of points.now) (ys_of points.now limb) k → SameCoefficients out.new f }
+{
+    fill_ys(ys, points, limb);
+    decode(scratch, xs, ys, k, out)
+}
+
+fn is_on_all(first: &Poly, second: &Poly, third: &Poly, point: &Point) -> bool
+    ensures { result ≡ is_on_all first.now second.now third.now point.now }
+{
+    first.value_at(point.x).value() == point.y[0].value()
+        && second.value_at(point.x).value() == point.y[1].value()
+        && third.value_at(point.x).value() == point.y[2].value()
+}
+
+// How many of the points lie on all three polynomials.
+fn agreement(first: &Poly, second: &Poly, third: &Poly, points: &[Point]) -> u32
+    requires { length points.now < 2 ^ 32 }
+    ensures { result ≡ agreement_of_all first.now second.now third.now points.now }
+{
+    let mut count = 0;
+    for i in 0..points.len() {
+        if is_on_all(first, second, third, &points[i]) {
+            count += 1;
+        }
+    }
+    count
+}
