@@ -1,0 +1,44 @@
+-- Streams of whole records.
+use Rattle.std.proofs.Common.{◌≡◌, ◌∙◌, ◌≤◌, ℕ, ◌+◌, List, [], ◌∷◌, ◌++◌, length, ap, subst, sym, append_assoc, arith}
+use Rattle.std.specs.Int.{w32, to_be_bytes}
+use Rattle.std.proofs.lemmas.List.{map-append, append-nil}
+use Rattle.std.proofs.lemmas.List.FromFn.{map-range_with_len_more}
+use Rattle.star_io.specs.Records.{Begins, BeginAll, AreRecords}
+use Rattle.star_io.specs.declared.record.TheConstants.{MAX_RECORD}
+use Rattle.star_io.specs.declared.record.Record.{Record}
+use Rattle.star_io.specs.declared.record.Record.TheVariants.{Whole}
+use Rattle.star_io.proofs.RecordLaws.{begin_more}
+use Rattle.nest_client.specs.Stream.{whole, first_of}
+
+-- whole records have one stream
+pub one_stream : (bodies : List (List ℕ)) (a b : List ℕ) → AreRecords (whole bodies) a → AreRecords (whole bodies) b → a ≡ b
+one_stream [] a b of_a of_b = of_a ∙ sym of_b
+one_stream (body ∷ bodies) a b of_a of_b =
+    of_a.1.1 ∙ ap (λ (rest : List ℕ). to_be_bytes w32 (length body) ++ body ++ rest) (one_stream bodies of_a.0 of_b.0 of_a.2 of_b.2) ∙ sym of_b.1.1
+
+-- what follows bytes follows the records with which they begin
+more_behind : (bodies : List (List ℕ)) (bytes rest more : List ℕ) → BeginAll (whole bodies) bytes rest → BeginAll (whole bodies) (bytes ++ more) (rest ++ more)
+more_behind [] bytes rest more all = ap (λ (l : List ℕ). l ++ more) all
+more_behind (body ∷ bodies) bytes rest more all = (
+  all.0 ++ more,
+  (
+    all.1.0,
+    ap (λ (l : List ℕ). l ++ more) all.1.1 ∙ append_assoc (to_be_bytes w32 (length body) ++ body) all.0 more,
+  ),
+  more_behind bodies all.0 rest more all.2,
+)
+
+-- a record behind those of f 0, f 1 and so on
+pub one_more : (f : ℕ → List ℕ) (n : ℕ) (text next body : List ℕ) → AreRecords (whole (first_of f n)) text → length body ≤ MAX_RECORD → body ≡ f n
+    → next ≡ text ++ (to_be_bytes w32 (length body) ++ body) → AreRecords (whole (first_of f (n + 1))) next
+one_more f n text next body so_far short body_is next_is =
+    let spelt : List ℕ = to_be_bytes w32 (length body) ++ body in
+    let follows : Begins (Whole body) spelt [] = (short, sym (append-nil spelt)) in
+    let all : AreRecords (whole (first_of f n) ++ Whole body ∷ []) (text ++ spelt) =
+    begin_more (whole (first_of f n)) (Whole body) (text ++ spelt) spelt [] (more_behind (first_of f n) text [] spelt so_far) follows in
+    let records : whole (first_of f n) ++ Whole body ∷ [] ≡ whole (first_of f (n + 1)) =
+    ap (λ (b : List ℕ). whole (first_of f n) ++ Whole b ∷ []) body_is
+    ∙ sym (map-append (λ (b : List ℕ). Whole b) (first_of f n) (f n ∷ []))
+    ∙ sym (ap whole (map-range_with_len_more f 0 n n (omega arith))) in
+    subst (λ (l : List ℕ). AreRecords (whole (first_of f (n + 1))) l) (sym next_is)
+    (subst (λ (rs : List Record). AreRecords rs (text ++ spelt)) records all)
