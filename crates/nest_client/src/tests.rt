@@ -6,27 +6,6 @@ use star_io::NoMemory;
 
 // All values are those of an implementation in Python with hashlib and the package cryptography.
 
-// The report of `red` under threshold 2, in epoch 1, from client 0 with a seed of zeros.
-const RED: [u8; 141] = [
-    0x53, 0x54, 0x01, 0x00, 0x00, 0x00, 0x00, 0x01, 0x00, 0x02, 0x06, 0xb8, 0xe0, 0xad, 0xa0, 0xf1,
-    0x3d, 0x91, 0x0b, 0x79, 0xc5, 0x9d, 0x12, 0x73, 0x28, 0x79, 0x08, 0x81, 0xd8, 0xd7, 0xcf, 0x3f,
-    0xcb, 0x23, 0x03, 0x56, 0xf5, 0xca, 0xe5, 0xcc, 0xc5, 0x8f, 0xf6, 0x7d, 0x67, 0x87, 0x17, 0xbd,
-    0xf3, 0xb1, 0xda, 0x3e, 0x31, 0x81, 0x1c, 0xf2, 0xae, 0x3b, 0x44, 0x81, 0x6b, 0xc0, 0x21, 0x97,
-    0x30, 0x80, 0x80, 0x58, 0x60, 0xf2, 0xca, 0x6d, 0x34, 0x5b, 0xa6, 0xb0, 0x48, 0x39, 0xdd, 0xa5,
-    0x68, 0x52, 0xe7, 0x95, 0x5c, 0x27, 0xb0, 0x84, 0x70, 0x4b, 0x03, 0xf8, 0xd0, 0x5b, 0x40, 0x5d,
-    0x6a, 0xe5, 0x53, 0x86, 0xbd, 0x28, 0xbd, 0xd2, 0x19, 0xb8, 0x00, 0x01, 0x0d, 0x30, 0x52, 0x52,
-    0x36, 0x5b, 0x25, 0xa5, 0x7e, 0xdd, 0xc6, 0x95, 0xd8, 0x91, 0x1b, 0x06, 0xed, 0x8d, 0x86, 0x70,
-    0xd5, 0x55, 0x34, 0x75, 0xfe, 0x2e, 0x73, 0xcb, 0x25, 0x78, 0xd6, 0x40, 0xc0,
-];
-
-// The first 8 bytes of SHA-256, as a number.
-fn front(bytes: &[u8]) -> u64 {
-    let digest = Sha256::digest(bytes);
-    u64::from_be_bytes([
-        digest[0], digest[1], digest[2], digest[3], digest[4], digest[5], digest[6], digest[7],
-    ])
-}
-
 fn text_value(text: &[u8]) -> Value {
     Value::of(text).unwrap_or_default()
 }
@@ -60,24 +39,49 @@ fn counting_seed() -> [u8; 32] {
 }
 
 #[test]
-fn every_byte_of_one_layer(rt: HostRuntime) -> Result<(), NoMemory> {
-    let frame = build(rt.alloc(), &[text_value(b"red")], &[2], 1, &[0; 32], 0)?;
-    assert_eq!(rt; frame.as_slice(), RED.as_slice());
-    Ok(())
-}
-
-#[test]
 fn one_to_eight_layers(rt: HostRuntime) -> Result<(), NoMemory> {
     let thresholds: [u16; 8] = [2, 3, 20, 512, 5, 7, 100, 2];
-    let rows: [(u8, usize, u64); 8] = [
-        (1, 147, 0x5b3f8b3eb9c3a123),
-        (2, 319, 0xb2e3e1fba8493fb4),
-        (3, 516, 0x9ef7bbef31e1c396),
-        (4, 738, 0xe7b113fa9c283fcd),
-        (5, 857, 0x4e2b4631947d235a),
-        (6, 1001, 0xb79e6e8d2879cf26),
-        (7, 1170, 0x67a4c0c2d2383cc1),
-        (8, 1616, 0x096071f08c74b14c),
+    let rows: [(u8, usize, [u8; 32]); 8] = [
+        (
+            1,
+            147,
+            *b"\x5b\x3f\x8b\x3e\xb9\xc3\xa1\x23\xec\x7a\xdb\x0f\x08\xa0\xac\x6c\xb9\xe6\x2a\x15\xe9\x1f\xd7\xc9\x82\xde\x71\x9e\x64\x9a\xbb\x78",
+        ),
+        (
+            2,
+            319,
+            *b"\xb2\xe3\xe1\xfb\xa8\x49\x3f\xb4\x40\x5f\xb6\x1c\x61\x28\xef\x77\x55\x07\x05\x04\x8a\x54\x95\xfb\x06\x24\x49\xfa\x29\x61\x5d\xb0",
+        ),
+        (
+            3,
+            516,
+            *b"\x9e\xf7\xbb\xef\x31\xe1\xc3\x96\x2e\x71\x66\x8a\x8e\xc2\xd3\xd6\x3d\xe7\x9e\x5a\xf1\x46\x30\x4e\xfd\xff\x9a\x28\xd7\x25\x72\xf7",
+        ),
+        (
+            4,
+            738,
+            *b"\xe7\xb1\x13\xfa\x9c\x28\x3f\xcd\x6a\xdc\xdb\x73\x1c\x7b\x1b\xc5\x08\x6e\xf4\x24\x2a\xd6\x95\xe3\x9a\x50\x48\x8e\xc2\x54\xe4\x96",
+        ),
+        (
+            5,
+            857,
+            *b"\x4e\x2b\x46\x31\x94\x7d\x23\x5a\xbe\xd0\x79\x68\xd6\x4c\x3a\xac\xfe\xd6\x54\x7b\xd8\x58\x62\x7b\xd1\xbe\xd7\x87\xad\x8c\x2c\x52",
+        ),
+        (
+            6,
+            1001,
+            *b"\xb7\x9e\x6e\x8d\x28\x79\xcf\x26\x72\x48\x17\x16\x2a\x8d\xa6\x15\x37\x09\x99\xf9\x2b\x03\xd3\xca\xe1\x2f\xa1\xda\xb2\x37\x1a\x8e",
+        ),
+        (
+            7,
+            1170,
+            *b"\x67\xa4\xc0\xc2\xd2\x38\x3c\xc1\x1c\x62\x34\xe6\x8a\xf5\xe8\xf9\x96\xb9\xd3\x35\x62\x00\xd9\x9e\xb3\x0b\xea\xed\xad\xc2\x77\x32",
+        ),
+        (
+            8,
+            1616,
+            *b"\x09\x60\x71\xf0\x8c\x74\xb1\x4c\x09\x74\xc5\x32\x00\x8c\xb2\x49\xa6\x5d\x28\x7a\xb7\x71\x58\x11\x13\xdf\xc4\x48\x40\x01\x32\x3f",
+        ),
     ];
     for (n, length, digest) in rows {
         let values = [
@@ -101,7 +105,7 @@ fn one_to_eight_layers(rt: HostRuntime) -> Result<(), NoMemory> {
             client,
         )?;
         assert_eq!(rt; frame.len(), length);
-        assert_eq!(rt; front(frame.as_slice()), digest);
+        assert_eq!(rt; Sha256::digest(frame.as_slice()), digest);
     }
     Ok(())
 }
@@ -112,7 +116,10 @@ fn a_share_raised_by_the_greatest_shift(rt: HostRuntime) -> Result<(), NoMemory>
     let shift = Fe::ZERO.sub(Fe::ONE);
     let frame = build_shifted(rt.alloc(), &values, &[2, 3], 1, &[0; 32], 5, shift)?;
     assert_eq!(rt; frame.len(), 283);
-    assert_eq!(rt; front(frame.as_slice()), 0xbf4ba7cb791f534b);
+    assert_eq!(rt;
+        Sha256::digest(frame.as_slice()),
+        *b"\xbf\x4b\xa7\xcb\x79\x1f\x53\x4b\x87\x73\x7a\xcf\xf9\x94\x6f\xf2\x2b\x5b\xf2\xaf\x37\x25\xcc\xe0\x7e\xaa\x30\x98\x56\x87\xa8\x3a"
+    );
     Ok(())
 }
 
@@ -135,7 +142,10 @@ fn the_text_of_a_table(rt: HostRuntime) -> Result<(), NoMemory> {
         &counting_seed(),
     )?;
     assert_eq!(rt; text.len(), 916);
-    assert_eq!(rt; front(text.as_slice()), 0x2dee5c494049087e);
+    assert_eq!(rt;
+        Sha256::digest(text.as_slice()),
+        *b"\x2d\xee\x5c\x49\x40\x49\x08\x7e\x92\xbf\xb7\x6b\x6c\x41\x1d\x3c\x44\x44\xb8\xab\x01\xd8\x77\xa9\xbe\xac\x40\xfb\x5b\x9c\x37\xce"
+    );
     Ok(())
 }
 
@@ -143,6 +153,28 @@ fn the_text_of_a_table(rt: HostRuntime) -> Result<(), NoMemory> {
 fn two_hundred_reports_with_liars(rt: HostRuntime) -> Result<(), NoMemory> {
     let text = gen_text(rt.alloc(), 7, 200, 10)?;
     assert_eq!(rt; text.len(), 56847);
-    assert_eq!(rt; front(text.as_slice()), 0x7fb2b3c206e1dfff);
+    assert_eq!(rt;
+        Sha256::digest(text.as_slice()),
+        *b"\x7f\xb2\xb3\xc2\x06\xe1\xdf\xff\x34\x71\xa9\x6e\x36\x98\x09\xcc\x47\xe8\xd2\xe8\x96\x34\xb3\x1d\x0c\xac\x9c\xbb\x9b\xcb\x13\x9a"
+    );
+    Ok(())
+}
+
+#[test]
+fn a_liar_differs_in_one_share_and_the_seal(rt: HostRuntime) -> Result<(), NoMemory> {
+    let liar = gen_text(rt.alloc(), 0, 1, 100)?;
+    let honest = gen_text(rt.alloc(), 0, 1, 0)?;
+    assert_eq!(rt; liar.len(), 284);
+    assert_eq!(rt; honest.len(), 284);
+    let mut place = 0u32;
+    let mut differ = 0u32;
+    for (a, b) in liar.iter().zip(honest.iter()) {
+        if a != b {
+            assert!(rt; (22..30).contains(&place) || place >= 252, "byte {place}");
+            differ = differ.saturating_add(1);
+        }
+        place = place.saturating_add(1);
+    }
+    assert!(rt; differ > 0);
     Ok(())
 }
