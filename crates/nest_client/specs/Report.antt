@@ -5,7 +5,6 @@ use Rattle.byteorder.specs.Endian.{big_number}
 use Rattle.chacha_stream.specs.Keystream.{keystream, xor_bytes}
 use Rattle.hmac_seal.specs.Hmac.{hmac_sha256}
 use Rattle.field61.specs.Field.{field_sum}
-use Rattle.report_frame.specs.declared.limits.TheConstants.{MAX_LEVEL, MIN_THRESHOLD, MAX_THRESHOLD}
 use Rattle.report_frame.specs.Format.{spelling}
 use Rattle.report_frame.specs.Frame.{Fields, frame, entries, sealed_part}
 use Rattle.shamir_limbs.specs.Coefficients.{values}
@@ -99,10 +98,3 @@ report c values thresholds = report_shifted c 0 values thresholds
 -- a client by its parts
 abbrev pub client_of : ℕ → List ℕ → ℕ → Client
 client_of epoch seed number = record { epoch = epoch; seed = seed; number = number }
-
--- one threshold for each of at most 8 layers
-pub record AreThresholds (thresholds : List ℕ) : Type 0 where
-  pub some : 1 ≤ length thresholds
-  pub few : length thresholds ≤ MAX_LEVEL + 1
-  pub low : (i : ℕ) → i < length thresholds → MIN_THRESHOLD ≤ slice_index thresholds i
-  pub high : (i : ℕ) → i < length thresholds → slice_index thresholds i ≤ MAX_THRESHOLD

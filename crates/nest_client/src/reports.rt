@@ -1,7 +1,8 @@
 ghost use Rattle.std.specs.Prelude.{◌≡◌, ◌≤◌, ◌+◌, ◌*◌, ℕ, ◌<◌, length, slice_index, IfOk};
 ghost use Rattle.report_frame.specs.declared.limits.TheConstants.{MAX_LEVEL, MIN_THRESHOLD, MAX_THRESHOLD};
 ghost use Rattle.report_frame.specs.Frame.{IsFrame};
-ghost use Rattle.nest_client.specs.Report.{plain_body, client_of, report, report_shifted, AreThresholds};
+ghost use Rattle.report_frame.specs.Thresholds.{AreThresholds};
+ghost use Rattle.nest_client.specs.Report.{plain_body, client_of, report, report_shifted};
 
 use crate::client::Client;
 use crate::layer::layer_frame;

@@ -2,7 +2,7 @@ ghost use Rattle.std.specs.Prelude.{◌≡◌, ◌≤◌, ◌<◌, ◌++◌, [],
 ghost use Rattle.std.specs.Int.{w32, to_be_bytes};
 ghost use Rattle.star_io.specs.Records.{AreRecords};
 ghost use Rattle.star_io.specs.declared.record.TheConstants.{MAX_RECORD};
-ghost use Rattle.nest_client.specs.Report.{AreThresholds};
+ghost use Rattle.report_frame.specs.Thresholds.{AreThresholds};
 ghost use Rattle.nest_client.specs.Stream.{whole, table_records};
 
 use crate::reports::build;

@@ -6,3 +6,4 @@ pub mod Names
 pub mod Parts
 pub mod Report
 pub mod View
+pub mod Thresholds

@@ -25,6 +25,7 @@ pub use outside::{Failed, Sink, Source};
 pub use reader::{NextError, ReaderState, RecordReader};
 pub use record::{MAX_RECORD, Record};
 pub use standard::{StdSink, StdSource};
+pub use takes::fill;
 
 #[cfg(test)]
 mod tests;

@@ -1,17 +1,21 @@
 // Many takes as one.
-ghost use Rattle.std.specs.Prelude.{◌≡◌, ◌<◌, ◌≤◌, ℕ, List, length, take, IfOk};
+ghost use Rattle.std.specs.Prelude.{◌≡◌, ◌<◌, ◌≤◌, ℕ, List, length, take, IfOk, OnErr};
 ghost use Rattle.std.specs.Io.{ReadsAtMost};
 ghost use Rattle.std.specs.Io.KnownBytes.{Consumes, IsAtEnd};
 ghost use Rattle.star_io.specs.Faults.{HasCause};
 
 use crate::outside::{Failed, Source};
 
-// Fills a slice, or as much of it as there are bytes for, and says how much.
-pub(crate) fn fill<S: Source>(source: &mut S, into: &mut [u8]) -> Result<usize, Failed>
+/// Fills a slice, or as much of it as there are bytes for, and says how much.
+///
+/// An `Err` doesn't say how much was taken before the take that failed: it is at most the slice.
+pub fn fill<S: Source>(source: &mut S, into: &mut [u8]) -> Result<usize, Failed>
     ensures bound { ReadsAtMost result into.new }
     ensures bytes { IfOk result (λ n.
         Consumes (S.left source.old) (S.left source.new) (take n into.new)) }
     ensures short { IfOk result (λ n. n < length into.new → IsAtEnd (S.left source.new)) }
+    ensures failed { OnErr result ((front : List ℕ) × (length front ≤ length into.new)
+        × Consumes (S.left source.old) (S.left source.new) front) }
     ensures cause { HasCause (S.faults source.old) (S.faults source.new) result }
 {
     let mut filled = 0;
