@@ -3,3 +3,5 @@ pub mod Forwards
 pub mod Counting
 pub mod Choice
 pub mod Decoded
+pub mod Finding
+pub mod Search

@@ -1,3 +1,4 @@
 pub mod Decoding
+pub mod Search
 pub mod Sequence
 pub mod Choosing

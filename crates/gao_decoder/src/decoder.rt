@@ -1,6 +1,7 @@
-ghost use Rattle.std.specs.Prelude.{◌≡◌, ◌↔◌, ℕ, ◌<◌, ◌≤◌, ◌+◌, ◌*◌, ◌^◌, List, length, IsTrue, false};
+ghost use Rattle.std.specs.Prelude.{◌≡◌, ◌↔◌, ℕ, ◌<◌, ◌≤◌, ◌+◌, ◌*◌, ◌^◌, List, length, IsTrue, true, false, MatchOption};
 ghost use Rattle.poly61.specs.Poly.{IsZero, SameCoefficients, AreDistinct};
 ghost use Rattle.gao_decoder.specs.Decoding.{IsDecoded};
+ghost use Rattle.gao_decoder.specs.Search.{decoding_of};
 
 use crate::choosing::{agreement_of, choose};
 use crate::scratch::Scratch;
@@ -23,6 +24,7 @@ pub fn decode(scratch: &mut Scratch, xs: &[Fe], ys: &[Fe], k: usize, out: &mut P
     ensures exactly { IsTrue result ↔ ((f : List ℕ) × IsDecoded f xs.now ys.now k) }
     ensures only { (f : List ℕ) → IsDecoded f xs.now ys.now k → SameCoefficients out.new f }
     ensures none { result ≡ false → IsZero out.new }
+    ensures search { MatchOption (decoding_of xs.now ys.now k) (result ≡ false) (λ f. (result ≡ true) × SameCoefficients out.new f) }
 {
     decode_in(
         &mut scratch.upper,
