@@ -1,5 +1,5 @@
 -- Each polynomial of a key line is decoded, and so there is one key line.
-use Rattle.std.proofs.Common.{ℕ, ◌≤◌, ◌≡◌, sym, arith, List, length, slice_index, ◌↔◌, ◌∙◌, Option, Some, None, IsSome, IfSome, IsSomeAnd, ◌+◌, ◌*◌, subst}
+use Rattle.std.proofs.Common.{ℕ, ◌≤◌, ◌≡◌, refl, sym, arith, List, length, slice_index, ◌↔◌, ◌∙◌, Option, Some, None, IsSome, IfSome, IsSomeAnd, ◌+◌, ◌*◌, subst}
 use Rattle.std.proofs.lemmas.Bool.{false≢true}
 use Rattle.std.proofs.lemmas.List.{length-map}
 use Rattle.field61.specs.Field.{AreElements}
@@ -59,3 +59,24 @@ recovered_from_line f0 f1 f2 q0 q1 q2 points k (Some r) same found from line = r
   key = from.key ∙ values_at_zero-same f0 f1 f2 q0 q1 q2 same;
   agree = from.agree ∙ agreement_of_all-same f0 f1 f2 q0 q1 q2 points same;
 }
+
+-- three decoded polynomials that give something are a key line
+pub line_from_decoded : (f0 f1 f2 : List ℕ) (points : List Point) (k : ℕ) (o : Option Recovered)
+    → IsDecoded f0 (xs_of points) (ys_of points 0) k → IsDecoded f1 (xs_of points) (ys_of points 1) k → IsDecoded f2 (xs_of points) (ys_of points 2) k
+    → (IsSome o ↔ (AreLimbs (values_at_zero f0 f1 f2) × (length points + k ≤ 2 * agreement_of_all f0 f1 f2 points)))
+    → IfSome o (λ r. IsRecoveredFrom r f0 f1 f2 points)
+    → IfSome o (λ r. (q0 : List ℕ) × (q1 : List ℕ) × (q2 : List ℕ) × IsKeyLine q0 q1 q2 points k × IsRecoveredFrom r q0 q1 q2 points)
+line_from_decoded f0 f1 f2 points k None first second third found from = tt
+line_from_decoded f0 f1 f2 points k (Some r) first second third found from =
+    let enough = found.0 refl in (
+      f0,
+      f1,
+      f2,
+      record {
+        elements = (first.elements, second.elements, third.elements);
+        below = (first.below, second.below, third.below);
+        limbs = enough.0;
+        agrees = enough.1;
+      },
+      from,
+    )

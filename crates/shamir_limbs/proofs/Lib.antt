@@ -1,4 +1,5 @@
 pub mod KeyLines
 pub mod LimbLaws
+pub mod LineSearch
 pub mod LowBytes
 pub mod OnAll

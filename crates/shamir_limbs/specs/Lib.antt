@@ -1,3 +1,4 @@
 pub mod Coefficients
 pub mod KeyLine
 pub mod Limbs
+pub mod Search

@@ -1,8 +1,9 @@
 ghost use Rattle.std.specs.Prelude.{◌≡◌, ℕ, ◌+◌, ◌*◌, ◌^◌, ◌<◌, ◌≤◌, ◌↔◌, List, length, vec_capacity, IsTrue, IsSome, IfSome, IsSomeAnd};
 ghost use Rattle.poly61.specs.Poly.{SameCoefficients, AreDistinct};
 ghost use Rattle.gao_decoder.specs.Decoding.{IsDecoded};
-ghost use Rattle.shamir_limbs.specs.Limbs.{AreLimbs};
+ghost use Rattle.shamir_limbs.specs.Limbs.{IsKey, AreLimbs};
 ghost use Rattle.shamir_limbs.specs.KeyLine.{xs_of, ys_of, is_on_all, agreement_of_all, values_at_zero, IsKeyLine, IsRecoveredFrom};
+ghost use Rattle.shamir_limbs.specs.Search.{key_line_of};
 
 use crate::key::{Key, key_of};
 use crate::key_work::KeyWork;
@@ -31,6 +32,7 @@ pub fn recover(work: &mut KeyWork, points: &[Point], k: usize) -> Option<Recover
         × IsKeyLine q0 q1 q2 points.now k × IsRecoveredFrom r q0 q1 q2 points.now) }
     ensures only { (q0 q1 q2 : List ℕ) → IsKeyLine q0 q1 q2 points.now k
         → IsSomeAnd result (λ r. IsRecoveredFrom r q0 q1 q2 points.now) }
+    ensures line { result ≡ key_line_of points.now k }
 {
     fill_xs(&mut work.xs, points);
     let xs = &work.xs;
@@ -84,6 +86,7 @@ fn key_through(
         ↔ (AreLimbs (values_at_zero first.now second.now third.now)
         × (length points.now + k ≤ 2 * agreement_of_all first.now second.now third.now points.now)) }
     ensures from { IfSome result (λ r. IsRecoveredFrom r first.now second.now third.now points.now) }
+    ensures key { IfSome result (λ r. IsKey r.key.bytes) }
 {
     let key = key_of(&[
         first.value_at(Fe::ZERO),
