@@ -22,9 +22,8 @@ first_differing-drop : (vs : List Vector) (i : ℕ) (d : Vector) → i < length 
 first_differing-drop vs i d within = rw (add-one, drop-cons vs i d) refl
 
 -- the vector at place i doesn't differ
-pub goes_on : (vs : List Vector) (i : ℕ) (d : Vector) → vs ≡ vectors → i < 5 → first_differing vectors ≡ first_differing (drop i vectors)
+pub goes_on : (vs : List Vector) (i : ℕ) (d : Vector) → vs ≡ vectors → i < length vectors → first_differing vectors ≡ first_differing (drop i vectors)
     → false ≡ not (bytes_eq (get_or vs i d).got (get_or vs i d).wanted) → first_differing vectors ≡ first_differing (drop (i + 1) vectors)
-unfolding vectors
 goes_on vs i d are within before same =
     let equal : bytes_eq (get_or vectors i d).got (get_or vectors i d).wanted ≡ true =
     equal_if_not _ (subst (λ (xs : List Vector). false ≡ not (bytes_eq (get_or xs i d).got (get_or xs i d).wanted)) are same) in
@@ -32,10 +31,9 @@ goes_on vs i d are within before same =
     ∙ ap (λ (e : Bool). if e then first_differing (drop (i + 1) vectors) else Some (get_or vectors i d)) equal
 
 -- the vector at place i differs, and is the first
-pub stops : (vs : List Vector) (i : ℕ) (d : Vector) → vs ≡ vectors → i < 5 → first_differing vectors ≡ first_differing (drop i vectors)
+pub stops : (vs : List Vector) (i : ℕ) (d : Vector) → vs ≡ vectors → i < length vectors → first_differing vectors ≡ first_differing (drop i vectors)
     → true ≡ not (bytes_eq (get_or vs i d).got (get_or vs i d).wanted)
     → Err (error.Vector (get_or vs i d).number (get_or vs i d).got (get_or vs i d).wanted) ≡ outcome_of (first_differing vectors)
-unfolding vectors
 stops vs i d are within before other =
     let differ : bytes_eq (get_or vectors i d).got (get_or vectors i d).wanted ≡ false =
     differ_if_not _ (subst (λ (xs : List Vector). true ≡ not (bytes_eq (get_or xs i d).got (get_or xs i d).wanted)) are other) in
@@ -45,8 +43,7 @@ stops vs i d are within before other =
     ap (λ (xs : List Vector). outcome_of (Some (get_or xs i d))) are ∙ sym (ap outcome_of first)
 
 -- no vector differs
-pub none_differs : (i : ℕ) → 5 ≤ i → first_differing vectors ≡ first_differing (drop i vectors) → Ok (record { count = 5 }) ≡ outcome_of (first_differing vectors)
-unfolding vectors
+pub none_differs : (i : ℕ) → length vectors ≤ i → first_differing vectors ≡ first_differing (drop i vectors) → Ok (record { count = length vectors }) ≡ outcome_of (first_differing vectors)
 none_differs i end before =
     let none : first_differing vectors ≡ None = before ∙ ap first_differing (drop_all i vectors end) in
     sym (ap outcome_of none)

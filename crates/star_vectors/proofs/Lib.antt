@@ -1,2 +1,4 @@
 pub mod Filling
+pub mod Spelling
+pub mod Decoding
 pub mod Differing

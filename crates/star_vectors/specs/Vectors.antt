@@ -1,14 +1,21 @@
--- The vectors of the self test: what the definitions give, and what a standard states.
-use Rattle.std.specs.Prelude.{ℕ, ◌-◌, List, [], ◌∷◌, ◌++◌, length, replicate, codes}
-use Rattle.std.specs.List.{range_with_len}
+-- The vectors of the self test: what the definitions give, and what a standard states or can be seen without computing.
+use Rattle.std.specs.Prelude.{ℕ, ◌-◌, List, [], ◌∷◌, ◌++◌, length, replicate, codes, unwrap_or}
+use Rattle.std.specs.Int.{w64, to_be_bytes}
+use Rattle.std.specs.List.{flat_map, range_with_len}
 use Rattle.sha2.specs.Sha256.{sha256}
 use Rattle.hmac_seal.specs.Hmac.{hmac_sha256}
 use Rattle.chacha_stream.specs.Keystream.{keystream}
+use Rattle.gao_decoder.specs.Search.{decoding_of}
+use Rattle.shamir_limbs.specs.Limbs.{limbs}
 use Rattle.star_vectors.specs.declared.vectors.Vector.{Vector}
 
 -- the bytes, filled up with zeros to 32
 abbrev pub filled_up : List ℕ → List ℕ
 filled_up bytes = bytes ++ replicate (32 - length bytes) 0
+
+-- the numbers, each as 8 big-endian bytes
+abbrev pub spelled : List ℕ → List ℕ
+spelled numbers = flat_map (to_be_bytes w64) numbers
 
 -- SHA-256 of the text abc (FIPS 180-4)
 unfoldable pub sha256_abc : Vector
@@ -59,6 +66,24 @@ keystream_of_zeros = record {
       0xbd ∷ 0xd2 ∷ 0x19 ∷ 0xb8 ∷ []);
 }
 
+-- the limbs of the key 0, 1, .. 15
+unfoldable pub key_limbs : Vector
+key_limbs = record {
+  number = 6;
+  got = filled_up (spelled (limbs (range_with_len 0 16)));
+  wanted = filled_up
+      (0 ∷ 0 ∷ 0 ∷ 0x01 ∷ 0x02 ∷ 0x03 ∷ 0x04 ∷ 0x05 ∷ 0 ∷ 0 ∷ 0 ∷ 0x06 ∷ 0x07 ∷ 0x08 ∷ 0x09 ∷ 0x0a ∷
+      0 ∷ 0 ∷ 0 ∷ 0x0b ∷ 0x0c ∷ 0x0d ∷ 0x0e ∷ 0x0f ∷ []);
+}
+
+-- what decoding with k = 2 gives for the points (1, 5), (2, 7), (3, 9) and (4, 100): the line 3 + 2x, on all but the last
+unfoldable pub decoded_line : Vector
+decoded_line = record {
+  number = 7;
+  got = filled_up (spelled (unwrap_or (decoding_of (1 ∷ 2 ∷ 3 ∷ 4 ∷ []) (5 ∷ 7 ∷ 9 ∷ 100 ∷ []) 2) []));
+  wanted = filled_up (0 ∷ 0 ∷ 0 ∷ 0 ∷ 0 ∷ 0 ∷ 0 ∷ 3 ∷ 0 ∷ 0 ∷ 0 ∷ 0 ∷ 0 ∷ 0 ∷ 0 ∷ 2 ∷ []);
+}
+
 -- all vectors, in order
 unfoldable pub vectors : List Vector
-vectors = sha256_abc ∷ hmac_case_1 ∷ hmac_case_2 ∷ keystream_block ∷ keystream_of_zeros ∷ []
+vectors = sha256_abc ∷ hmac_case_1 ∷ hmac_case_2 ∷ keystream_block ∷ keystream_of_zeros ∷ key_limbs ∷ decoded_line ∷ []

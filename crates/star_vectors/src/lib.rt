@@ -1,6 +1,7 @@
-//! The self test: computations whose outcome a standard states, done and compared.
+//! The self test: computations whose outcome is known, by a standard or at sight, done and compared.
 #![tactic(auto)]
 
+mod numbers;
 mod outcome;
 mod vectors;
 

@@ -1,8 +1,10 @@
 ghost use Rattle.std.specs.Prelude.{◌≡◌, ◌≢◌, Err};
 ghost use Rattle.star_vectors.specs.Vectors.{vectors};
 ghost use Rattle.star_vectors.specs.Comparison.{first_differing, outcome_of};
+ghost use Rattle.star_vectors.specs.declared.outcome.SelfTestError.TheVariants.{NoMemory};
 
 use crate::vectors::vectors;
+use star_io::NoMemory;
 use std::alloc::Global;
 
 /// All vectors gave what they must.
@@ -26,13 +28,19 @@ pub enum SelfTestError {
     NoMemory,
 }
 
+impl From<NoMemory> for SelfTestError {
+    ghost from_gives = { λ _ e. e ≡ NoMemory };
+
+    fn from(_: NoMemory) -> SelfTestError {
+        SelfTestError::NoMemory
+    }
+}
+
 /// Computes the vectors, and compares them in order.
-///
-/// No vector takes memory yet.
-pub fn self_test(_alloc: Global) -> Result<Passed, SelfTestError>
+pub fn self_test(alloc: Global) -> Result<Passed, SelfTestError>
     ensures { result ≢ Err SelfTestError.NoMemory → result ≡ outcome_of (first_differing vectors) }
 {
-    let vectors = vectors();
+    let vectors = vectors(alloc)?;
     for vector in &vectors {
         if vector.got != vector.wanted {
             return Err(SelfTestError::Vector {

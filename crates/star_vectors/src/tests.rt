@@ -6,7 +6,7 @@ use std::test::*;
 
 #[test]
 fn every_vector_gives_what_it_must(rt: HostRuntime) {
-    assert_eq!(rt; self_test(rt.alloc()), Ok(Passed { count: 5 }));
+    assert_eq!(rt; self_test(rt.alloc()), Ok(Passed { count: 7 }));
 }
 
 // The report of `red` under threshold 2, in epoch 1, from client 0 with a seed of zeros, as an implementation in Python

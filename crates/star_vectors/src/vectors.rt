@@ -1,33 +1,39 @@
 // The vectors, computed.
-ghost use Rattle.std.specs.Prelude.{◌≡◌, ◌+◌, ◌*◌, ◌^◌, ◌≤◌};
+ghost use Rattle.std.specs.Prelude.{◌≡◌, ◌+◌, ◌*◌, ◌^◌, ◌≤◌, IfOk};
 ghost use Rattle.chacha_stream.specs.Keystream.{keystream};
-ghost use Rattle.star_vectors.specs.Vectors.{filled_up, vectors, sha256_abc, hmac_case_1, hmac_case_2, keystream_block, keystream_of_zeros};
+ghost use Rattle.star_vectors.specs.Vectors.{filled_up, vectors, sha256_abc, hmac_case_1, hmac_case_2, keystream_block, keystream_of_zeros, key_limbs, decoded_line};
 
+use crate::numbers::{decoded, element, spelled};
 use chacha_stream::xor_stream;
 use hmac_seal::hmac;
 use sha2::{Digest, Sha256};
+use shamir_limbs::{Key, limbs_of};
+use star_io::NoMemory;
+use std::alloc::Global;
 
 /// A computation that was done. Fewer bytes than 32 are filled up with zeros at the end.
 #[derive(Clone, Copy, Debug)]
 pub(crate) struct Vector {
     pub number: u8,
     pub got: [u8; 32],
-    /// What the standard states.
+    /// What a standard states, or what can be seen without computing.
     pub wanted: [u8; 32],
 }
 
 /// The vectors in order.
 #[tactic(auto, unfolding(crate::specs::Vectors::vectors))]
-pub(crate) fn vectors() -> [Vector; 5]
-    ensures { result ≡ vectors }
+pub(crate) fn vectors(alloc: Global) -> Result<[Vector; 7], NoMemory>
+    ensures { IfOk result (λ all. all ≡ vectors) }
 {
-    [
+    Ok([
         sha256_abc(),
         hmac_case_1(),
         hmac_case_2(),
         keystream_block(),
         keystream_of_zeros(),
-    ]
+        key_limbs(),
+        decoded_line(alloc)?,
+    ])
 }
 
 #[tactic(auto, unfolding(crate::specs::Vectors::sha256_abc))]
@@ -88,6 +94,34 @@ fn keystream_of_zeros() -> Vector
         got: first_bytes(&[0; 32], &[0; 12], 0, 20),
         wanted: *b"\x76\xb8\xe0\xad\xa0\xf1\x3d\x90\x40\x5d\x6a\xe5\x53\x86\xbd\x28\xbd\xd2\x19\xb8\0\0\0\0\0\0\0\0\0\0\0\0",
     }
+}
+
+#[tactic(auto, unfolding(crate::specs::Vectors::key_limbs))]
+fn key_limbs() -> Vector
+    ensures { result ≡ key_limbs }
+{
+    let key = Key {
+        bytes: *b"\x00\x01\x02\x03\x04\x05\x06\x07\x08\x09\x0a\x0b\x0c\x0d\x0e\x0f",
+    };
+    Vector {
+        number: 6,
+        got: spelled(&limbs_of(&key)),
+        wanted: *b"\0\0\0\x01\x02\x03\x04\x05\0\0\0\x06\x07\x08\x09\x0a\0\0\0\x0b\x0c\x0d\x0e\x0f\0\0\0\0\0\0\0\0",
+    }
+}
+
+#[tactic(auto, unfolding(crate::specs::Vectors::decoded_line))]
+fn decoded_line(alloc: Global) -> Result<Vector, NoMemory>
+    ensures { IfOk result (λ vector. vector ≡ decoded_line) }
+{
+    let xs = [element(1), element(2), element(3), element(4)];
+    let ys = [element(5), element(7), element(9), element(100)];
+    let got = decoded(alloc, &xs, &ys)?;
+    Ok(Vector {
+        number: 7,
+        got,
+        wanted: *b"\0\0\0\0\0\0\0\x03\0\0\0\0\0\0\0\x02\0\0\0\0\0\0\0\0\0\0\0\0\0\0\0\0",
+    })
 }
 
 // The first bytes of a keystream.
