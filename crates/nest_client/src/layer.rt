@@ -2,10 +2,11 @@ ghost use Rattle.std.specs.Prelude.{◌≡◌, ◌≤◌, ◌+◌, length, IfOk}
 ghost use Rattle.report_frame.specs.Frame.{IsFrame};
 ghost use Rattle.report_frame.specs.Report.{IsGood, fields_of_report};
 ghost use Rattle.report_frame.specs.declared.limits.TheConstants.{FIXED_BYTES, MAX_LEVEL, MIN_THRESHOLD, MAX_THRESHOLD};
+ghost use Rattle.adss_commit.specs.Derivation.{derived};
 ghost use Rattle.nest_client.specs.Report.{body_of, frame_of, layer, sealed_by};
 
 use crate::client::{Client, coins_of, nonce_of, point_of};
-use adss_commit::{Context, body_key, box_value, coefficients, derive, seal_key};
+use adss_commit::{Context, Derived, body_key, box_value, coefficients, seal_key};
 use chacha_stream::xor_stream;
 use field61::Fe;
 use hmac_seal::hmac;
@@ -15,14 +16,17 @@ use star_io::{Bytes, NoMemory};
 use std::alloc::Global;
 
 /// The frame of a client's report of this context, around a plain body. The first number of the
-/// share is raised by the shift.
+/// share is raised by the shift. What the context derives is handed in, so that no hash is taken
+/// twice.
 pub(crate) fn layer_frame(
     alloc: Global,
     client: &Client,
     shift: Fe,
     context: &Context,
+    commitment: &Derived,
     plain: &[u8],
 ) -> Result<Vec<u8>, NoMemory>
+    requires commitment { commitment.now ≡ derived context.now }
     requires level { context.now.level ≤ MAX_LEVEL }
     requires k_low { MIN_THRESHOLD ≤ context.now.k }
     requires k_high { context.now.k ≤ MAX_THRESHOLD }
@@ -35,18 +39,17 @@ pub(crate) fn layer_frame(
     let coins = coins_of(client, context.level);
     let x = point_of(&coins);
     let nonce = nonce_of(&coins);
-    let derived = derive(context);
     let polynomials = coefficients(alloc, context)?;
     let [y0, y1, y2] = share_at(&polynomials, x);
-    let body = encrypt(alloc, &body_key(&derived.key), &nonce, plain)?;
+    let body = encrypt(alloc, &body_key(&commitment.key), &nonce, plain)?;
     let report = Report {
         level: context.level,
         epoch: context.epoch,
         head: Head {
             k: context.k,
-            tag: derived.tag,
-            check: derived.check,
-            boxed: box_value(&derived.key, &context.value),
+            tag: commitment.tag,
+            check: commitment.check,
+            boxed: box_value(&commitment.key, &context.value),
         },
         x,
         y: [y0.add(shift), y1, y2],
@@ -54,7 +57,7 @@ pub(crate) fn layer_frame(
         body,
         seal: [0; SEAL_BYTES],
     };
-    let frame = seal_frame(alloc, &report, &seal_key(&derived.key))?;
+    let frame = seal_frame(alloc, &report, &seal_key(&commitment.key))?;
     Ok(frame)
 }
 
@@ -71,7 +74,7 @@ fn encrypt(
 {
     let mut body = Vec::from_slice(alloc, plain)?;
     xor_stream(key, nonce, 0, &mut body);
-    Ok(Bytes::of(alloc, &body)?)
+    Ok(Bytes::from_vec(body))
 }
 
 // The frame of the report, with the seal that the key makes in place of its own.

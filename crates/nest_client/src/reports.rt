@@ -59,9 +59,16 @@ pub fn build_shifted(
         k: thresholds[0],
         value: values[0].copy(),
     };
-    let check = derive(&context).check;
-    let plain = plain_body(alloc, &client, 1, &check, &values[1..], &thresholds[1..])?;
-    let frame = layer_frame(alloc, &client, shift, &context, &plain)?;
+    let commitment = derive(&context);
+    let plain = plain_body(
+        alloc,
+        &client,
+        1,
+        &commitment.check,
+        &values[1..],
+        &thresholds[1..],
+    )?;
+    let frame = layer_frame(alloc, &client, shift, &context, &commitment, &plain)?;
     Ok(frame)
 }
 
@@ -95,16 +102,16 @@ fn plain_body(
         k: thresholds[0],
         value: values[0].copy(),
     };
-    let check = derive(&context).check;
+    let commitment = derive(&context);
     let inner = plain_body(
         alloc,
         client,
         level + 1,
-        &check,
+        &commitment.check,
         &values[1..],
         &thresholds[1..],
     )?;
-    let frame = layer_frame(alloc, client, Fe::ZERO, &context, &inner)?;
+    let frame = layer_frame(alloc, client, Fe::ZERO, &context, &commitment, &inner)?;
     plain.push(1)?;
     plain.extend_from_slice(&frame)?;
     Ok(plain)

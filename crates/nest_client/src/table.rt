@@ -60,7 +60,7 @@ impl Table {
 fn copy_row(alloc: Global, row: &[Value]) -> Result<Vec<Value>, NoMemory>
     ensures { IfOk result (λ v. v.items ≡ row.now) }
 {
-    let mut copy = Vec::new(alloc);
+    let mut copy = Vec::with_capacity(alloc, row.len())?;
     for value in row {
         copy.push(value.copy())?;
     }

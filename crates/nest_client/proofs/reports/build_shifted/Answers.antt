@@ -17,10 +17,10 @@ returns-clause-frame c =
     let context : List ℕ → Context = λ value. context_of client 0 (replicate 32 0) value (slice_index thresholds 0) in
     let value_is : c.copy.result ≡ get_or values 0 [] =
     c.copy.ensures ∙ c.index-values-0.is ∙ get_or_default values 0 c.index-values-0.result [] (omega (arith, c.requires.thresholds.some, c.requires.width)) in
-    let check_is : c.derive.result.check ≡ context_check (context c.copy.result) = ap (λ (d : Derived). d.check) c.derive.ensures in
+    let check_is : c.derive-commitment.result.check ≡ context_check (context c.copy.result) = ap (λ (d : Derived). d.check) c.derive-commitment.ensures in
     let plain_is : c.in_ok-plain.plain.items ≡ plain_body client 1 (context_check (context c.copy.result)) (drop 1 values) (drop 1 thresholds) =
     c.in_ok-plain.ensures.bytes
-    ∙ ap₂ (λ (vs : List (List ℕ)) (ks : List ℕ). plain_body client 1 c.derive.result.check vs ks) (rest_is values) (rest_is thresholds)
+    ∙ ap₂ (λ (vs : List (List ℕ)) (ks : List ℕ). plain_body client 1 c.derive-commitment.result.check vs ks) (rest_is values) (rest_is thresholds)
     ∙ ap (λ (h : List ℕ). plain_body client 1 h (drop 1 values) (drop 1 thresholds)) check_is in
     let made : layer client c.args.shift (context c.copy.result) c.deref.result.now
     ≡ layer client c.args.shift (context c.copy.result) (plain_body client 1 (context_check (context c.copy.result)) (drop 1 values) (drop 1 thresholds)) =
