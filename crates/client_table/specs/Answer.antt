@@ -1,0 +1,19 @@
+-- What is answered of the records of a text.
+use Rattle.std.specs.Prelude.{◌≡◌, ◌<◌, ◌≤◌, ◌+◌, ℕ, List, Result, Ok, Err, ⊤}
+use Rattle.client_table.specs.Table.{HasTooManyRows, IsBadTable, IsTable}
+use Rattle.client_table.specs.declared.read.TableError.{TableError}
+use Rattle.client_table.specs.declared.read.TableError.TheVariants.{BadTable, NoMemory, TooMany}
+use Rattle.client_table.specs.declared.read.TheConstants.{MAX_ROWS}
+
+-- an answer has its cause; want of memory needs none
+abbrev pub IsAnswer : (width : ℕ) → List (List (List ℕ)) → Result (List (List (List ℕ))) TableError → Type 0
+IsAnswer width rows (Ok table) = (table ≡ rows) × IsTable width rows
+IsAnswer width rows (Err TooMany) = HasTooManyRows rows
+IsAnswer width rows (Err (BadTable row column)) = IsBadTable width rows row column
+IsAnswer width rows (Err NoMemory) = ⊤
+
+-- why there is no table, where this is the first bad place and so many records follow its record
+abbrev pub IsRefusal : (row column rest : ℕ) → TableError → Type 0
+IsRefusal row column rest TooMany = MAX_ROWS < row + 1 + rest
+IsRefusal row column rest (BadTable r c) = (row + 1 + rest ≤ MAX_ROWS) × (r ≡ row) × (c ≡ column)
+IsRefusal row column rest NoMemory = ⊤
