@@ -1,0 +1,158 @@
+use crate::{Command, Words, WordsError, words_of};
+use star_io::NoMemory;
+use std::alloc::Global;
+use std::test::*;
+
+const ZEROS: &str = "0000000000000000000000000000000000000000000000000000000000000000";
+
+// The words of a line, which are parted by spaces.
+fn words_in(alloc: Global, line: &str) -> Result<Words, NoMemory> {
+    let mut words = Words::new(alloc);
+    for word in line.split_whitespace() {
+        words.push(word)?;
+    }
+    Ok(words)
+}
+
+// The answer for a line of words.
+fn read(alloc: Global, line: &str) -> Result<Result<Command, WordsError>, NoMemory> {
+    Ok(words_of(alloc, &words_in(alloc, line)?))
+}
+
+// Whether a line of words gives `make` with these options.
+fn makes(
+    alloc: Global,
+    line: &str,
+    epoch: u32,
+    thresholds: &[u16],
+    seed: Option<[u8; 32]>,
+) -> Result<bool, NoMemory> {
+    match read(alloc, line)? {
+        Ok(
+            Command::Make {
+                epoch: got_epoch,
+                thresholds: got,
+                seed: got_seed,
+            },
+        ) => Ok(got_epoch == epoch && got.as_slice() == thresholds && got_seed == seed),
+        _ => Ok(false),
+    }
+}
+
+#[test]
+fn faulty_words_are_a_fault_of_usage(rt: HostRuntime) -> Result<(), Fail> {
+    let alloc = rt.alloc();
+    let lines = [
+        "",
+        "look",
+        "Check",
+        "check x",
+        "check --epoch 1",
+        "selftest x",
+        "-h",
+        "--help",
+        "--version",
+        "reveal --epoch 7",
+        "gen --number 1 --reports 1 --liars 0",
+        "make",
+        "make --epoch 1",
+        "make --thresholds 2",
+        "make --epoch --thresholds 2",
+        "make --thresholds 2 --epoch",
+        "make --epoch +7 --thresholds 2",
+        "make --epoch -7 --thresholds 2",
+        "make --epoch 0x7 --thresholds 2",
+        "make --epoch=7=7 --thresholds 2",
+        "make --epoch 4294967296 --thresholds 2",
+        "make --epoch 00000000001 --thresholds 2",
+        "make --epoch 1 --epoch 1 --thresholds 2",
+        "make --epoch 1 --thresholds 2 --epoch=1",
+        "make --epoch 1 --thresholds 2 --thresholds 2",
+        "make --epoch 1 --thresholds 2,1",
+        "make --epoch 1 --thresholds 2,,2",
+        "make --epoch 1 --thresholds ,2",
+        "make --epoch 1 --thresholds 2,",
+        "make --epoch 1 --thresholds 2;2",
+        "make --epoch 1 --thresholds=",
+        "make --epoch= --thresholds=2",
+        "make --epoch 1 --thresholds 513",
+        "make --epoch 1 --thresholds 2,2,2,2,2,2,2,2,2",
+        "make --epoch 1 --thresholds 2, 2",
+        "make --epoch 1 --thresholds 2 --seed 00",
+        "make --epoch 1 --thresholds 2 --seed=",
+        "make --epoch 1 --thresholds 2 --workers 4",
+        "make --epoch 1 --thresholds 2 --",
+        "make -- --epoch 1 --thresholds 2",
+        "make --epoch 1 --thresholds 2 -",
+        "make --epoch 1 --thresholds 2 x",
+        "make x --epoch 1 --thresholds 2",
+        "make -e 1 --thresholds 2",
+        "make --epo 1 --thresholds 2",
+        "make --Epoch 1 --thresholds 2",
+        "make --epoch 1 --thresholds 2 -h",
+        "make --epoch 1 --thresholds 2 --help",
+        "make --epoch 1 --thresholds 2 --version",
+        "make help --epoch 1 --thresholds 2",
+        "--epoch 1 make --thresholds 2",
+    ];
+    for line in lines {
+        assert_eq!(rt; read(alloc, line)?, Err(WordsError::Usage), "{line}");
+    }
+    Ok(())
+}
+
+#[test]
+fn seeds_that_are_not_64_digits_are_a_fault_of_usage(rt: HostRuntime) -> Result<(), Fail> {
+    let alloc = rt.alloc();
+    let (_, shorter) = ZEROS.split_at(1);
+    for (front, back) in [(shorter, ""), (ZEROS, "0"), (shorter, "g"), (shorter, "-")] {
+        let line = format!(in alloc; "make --epoch 1 --thresholds 2 --seed {front}{back}")?;
+        assert_eq!(rt; read(alloc, &line)?, Err(WordsError::Usage), "{line}");
+    }
+    Ok(())
+}
+
+#[test]
+fn verbs_that_stand_alone(rt: HostRuntime) -> Result<(), Fail> {
+    let alloc = rt.alloc();
+    assert_eq!(rt; read(alloc, "check")?, Ok(Command::Check));
+    assert_eq!(rt; read(alloc, "selftest")?, Ok(Command::SelfTest));
+    Ok(())
+}
+
+#[test]
+fn options_of_make(rt: HostRuntime) -> Result<(), Fail> {
+    let alloc = rt.alloc();
+    let pair: &[u16] = &[20, 10];
+    for (line, epoch, thresholds) in [
+        ("make --epoch 7 --thresholds 20,10", 7, pair),
+        ("make --thresholds 20,10 --epoch 7", 7, pair),
+        ("make --epoch=007 --thresholds=20,0000000010", 7, pair),
+        ("make --thresholds=20,10 --epoch 0000000000", 0, pair),
+        ("make --epoch 4294967295 --thresholds 2", 4294967295, &[2]),
+        (
+            "make --epoch 1 --thresholds 2,3,4,5,6,7,8,512",
+            1,
+            &[2, 3, 4, 5, 6, 7, 8, 512],
+        ),
+    ] {
+        assert!(rt; makes(alloc, line, epoch, thresholds, None)?, "{line}");
+    }
+    Ok(())
+}
+
+#[test]
+fn seeds_in_either_case(rt: HostRuntime) -> Result<(), Fail> {
+    let alloc = rt.alloc();
+    let (_, zeros) = ZEROS.split_at(48);
+    for digits in ["0123456789abcdef", "0123456789ABCDEF", "0123456789aBcDeF"] {
+        let line = format!(in alloc;
+            "make --seed {digits}{zeros}{zeros}{digits} --epoch 1 --thresholds 2"
+        )?;
+        let mut seed = [0; 32];
+        seed[..8].copy_from_slice(&[0x01, 0x23, 0x45, 0x67, 0x89, 0xab, 0xcd, 0xef]);
+        seed[24..].copy_from_slice(&[0x01, 0x23, 0x45, 0x67, 0x89, 0xab, 0xcd, 0xef]);
+        assert!(rt; makes(alloc, &line, 1, &[2], Some(seed))?, "{line}");
+    }
+    Ok(())
+}
