@@ -1,15 +1,15 @@
 -- Reading records one after the other.
-use Rattle.std.proofs.Common.{◌≡◌, ℕ, List, [], ◌∷◌, ◌++◌, length, Option, Some, None, Result, Ok, refl, sym, subst, ◌∙◌}
+use Rattle.std.proofs.Common.{◌≡◌, ◌≤◌, ℕ, List, [], ◌∷◌, ◌++◌, length, Option, Some, None, Result, Ok, refl, sym, ap, subst, ◌∙◌, arith}
 use Rattle.std.specs.Prelude.{◌≢◌, ⊤, IfOk}
 use Rattle.star_io.specs.declared.record.Record.{Record}
 use Rattle.star_io.specs.declared.record.Record.TheVariants.{Whole, TooLong, CutLength, CutRecord}
 use Rattle.star_io.specs.declared.reader.ReaderState.{ReaderState}
 use Rattle.star_io.specs.declared.reader.ReaderState.TheVariants.{Ready, Ended, Broken}
 use Rattle.star_io.specs.declared.reader.NextError.{NextError}
-use Rattle.star_io.specs.Records.{Begins, BeginAll}
+use Rattle.star_io.specs.Records.{Begins, BeginAll, AreRecords}
 use Rattle.star_io.specs.Reading.{TakesRecord, state_after}
-use Rattle.star_io.proofs.RecordLaws.{begin_more}
-use Rattle.star_tool.specs.Stream.{IsWholeStream, LooksBehind, TakesOne}
+use Rattle.star_io.proofs.RecordLaws.{begin_more, none_follow}
+use Rattle.star_tool.specs.Stream.{IsWholeStream, LooksBehind, TakesOne, HasTooMany}
 use Rattle.star_tool.specs.declared.stream.TheConstants.{MAX_RECORDS}
 
 -- where the source tells its bytes, these records were taken from their front, and at the end nothing is left
@@ -84,3 +84,14 @@ last_turn Ready result rs old middle new sound same taken e h =
 last_turn Ended result rs old middle new sound same taken e h =
     subst (λ (left : Option (List ℕ)). IsWholeStream rs old left) (sym (same refl)) (all_at_end rs old middle Ended refl h)
 last_turn Broken result rs old middle new sound same taken e h = absurd (sound refl)
+
+-- the records of a whole stream whose bytes are told, and nothing is left
+pub whole_stream : (records : List Record) (bytes : List ℕ) (left : Option (List ℕ)) → IsWholeStream records (Some bytes) left → (left ≡ Some []) × AreRecords records bytes
+whole_stream records bytes None all = absurd all
+whole_stream records bytes (Some rest) all = (ap (λ (l : List ℕ). Some l) all.1, all.0)
+
+-- a stream of few records has not too many
+pub few_records : (records : List Record) (bytes : List ℕ) → AreRecords records bytes → length records ≤ MAX_RECORDS → HasTooMany bytes → ⊥
+few_records records bytes are few many =
+    let none : many.1 ≡ [] = none_follow records many.0 bytes many.1 are many.2 (omega (arith, few, many.3)) in
+    omega (arith, many.4, ap length none)

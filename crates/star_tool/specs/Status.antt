@@ -1,9 +1,33 @@
 -- The exit status and the line on standard error of each way in which a run ends.
 use Rattle.std.specs.Prelude.{ℕ, List, [], ◌++◌, codes}
 use Rattle.std.specs.Fmt.{decimal}
+use Rattle.client_table.specs.declared.read.TableError.{TableError}
+use Rattle.client_table.specs.declared.read.TableError.TheVariants as table
+use Rattle.star_vectors.specs.declared.outcome.SelfTestError.{SelfTestError}
+use Rattle.star_vectors.specs.declared.outcome.SelfTestError.TheVariants as vector
+use Rattle.star_tool.specs.declared.input.InputError.{InputError}
+use Rattle.star_tool.specs.declared.input.InputError.TheVariants as input
 use Rattle.star_tool.specs.declared.status.Status.{Status}
-use Rattle.star_tool.specs.declared.status.Status.TheVariants.{Done, Usage, ReadFault, WriteFault, TooMany, NoMemory, BadVector}
+use Rattle.star_tool.specs.declared.status.Status.TheVariants.{Done, Usage, ReadFault, WriteFault, TooMany, NoMemory, BadTable, ShortCoins, BadVector}
 
+-- an input that isn't read to its end
+abbrev pub input_status : InputError → Status
+input_status input.Read = ReadFault
+input_status input.TooMany = TooMany
+input_status input.NoMemory = NoMemory
+
+-- bytes that are no table
+abbrev pub table_status : TableError → Status
+table_status table.TooMany = TooMany
+table_status (table.BadTable row column) = BadTable row column
+table_status table.NoMemory = NoMemory
+
+-- a self test that isn't passed
+abbrev pub self_test_status : SelfTestError → Status
+self_test_status (vector.Vector number got wanted) = BadVector number got wanted
+self_test_status vector.NoMemory = NoMemory
+
+-- the exit status
 abbrev pub number_of : Status → ℕ
 number_of Done = 0
 number_of Usage = 2
@@ -11,13 +35,18 @@ number_of ReadFault = 3
 number_of WriteFault = 4
 number_of TooMany = 5
 number_of NoMemory = 6
+number_of (BadTable row column) = 7
+number_of (ShortCoins have) = 8
 number_of (BadVector number got wanted) = 9
 
+-- the line on standard error
 abbrev pub line_of : Status → List ℕ
 line_of Done = []
-line_of Usage = codes "usage: star_tool check | selftest\n"
+line_of Usage = codes "usage: star_tool check | make --epoch E --thresholds K,.. [--seed HEX] | selftest\n"
 line_of ReadFault = codes "read fault\n"
 line_of WriteFault = codes "write fault\n"
 line_of TooMany = codes "too many\n"
 line_of NoMemory = codes "no memory\n"
+line_of (BadTable row column) = codes "bad table: row " ++ decimal row ++ codes " column " ++ decimal column ++ codes "\n"
+line_of (ShortCoins have) = codes "short coins: " ++ decimal have ++ codes " bytes\n"
 line_of (BadVector number got wanted) = codes "vector " ++ decimal number ++ codes " differs\n"

@@ -1,27 +1,41 @@
 //! A tool for streams of reports.
 #![tactic(auto)]
 
+mod check;
+mod file_source;
+mod input;
+mod make;
+mod output;
 mod run;
+mod seed;
 mod self_test;
 mod self_test_text;
 mod status;
 mod stream;
+mod table_bytes;
 mod text;
-mod words;
 
+pub use client_table::{TableError, read_table};
+pub use command_words::{Command, Thresholds, Words, WordsError, words_of};
+pub use file_source::FileSource;
+pub use input::InputError;
 use recovery_pool::NoGate;
 pub use run::run;
 pub use self_test_text::self_test_text;
-use star_io::{MemorySource, NoMemory, Sink, StdSink, StdSource};
+use star_io::{NoMemory, Sink, StdSink, StdSource};
 pub use status::{Status, status_line, status_number};
 use std::alloc::Global;
 use std::env;
 use std::io::{self, BufReader, Read, Write};
 use std::process::ExitCode;
+use std::rt::Files;
 use std::thread::Threads;
-pub use stream::{MAX_RECORDS, StreamError, read_records};
+pub use stream::{MAX_RECORDS, read_records};
+pub use table_bytes::{MAX_TABLE_BYTES, read_table_bytes};
 pub use text::check_text;
-pub use words::{Command, Words, WordsError, words_of};
+
+/// Where the coins come from where no seed is given.
+const COINS: &str = "/dev/urandom";
 
 /// How many bytes one read of standard input may bring.
 const INPUT_BUFFER: usize = 65536;
@@ -42,7 +56,7 @@ fn main(rt: HostRuntime) -> ExitCode {
 }
 
 // Runs over a reader and a writer of std. The input is read through a buffer.
-fn run_over<R: Threads + Sync, I: Read + Drop, O: Write + Drop>(
+fn run_over<R: Threads + Sync + Files, I: Read + Drop, O: Write + Drop>(
     rt: &R,
     alloc: Global,
     words: &Words,
@@ -54,7 +68,7 @@ fn run_over<R: Threads + Sync, I: Read + Drop, O: Write + Drop>(
         Err(_) => return Status::NoMemory,
     };
     let mut input = StdSource::new(buffered);
-    let mut coins = MemorySource::new(Vec::new(alloc), Vec::new(alloc), Vec::new(alloc));
+    let mut coins = FileSource::new(rt, COINS);
     let mut out = StdSink::new(stdout);
     run(rt, alloc, words, &mut input, &mut coins, &NoGate, &mut out)
 }

@@ -3,7 +3,10 @@ ghost use Rattle.std.specs.Prelude.{◌≡◌, ◌++◌, IfOk, codes};
 ghost use Rattle.std.specs.Fmt.{decimal};
 ghost use Rattle.star_tool.specs.Status.{number_of, line_of};
 
+use crate::input::InputError;
+use client_table::TableError;
 use star_io::NoMemory;
+use star_vectors::SelfTestError;
 use std::alloc::Global;
 use std::fmt::Write;
 
@@ -18,9 +21,18 @@ pub enum Status {
     ReadFault,
     /// A write of the output failed.
     WriteFault,
-    /// The stream has more records than are read.
+    /// The input has more bytes, records or rows than are read.
     TooMany,
     NoMemory,
+    /// The table's first bad record, and the first column at which it is bad. Both count from 0.
+    BadTable {
+        row: u32,
+        column: u32,
+    },
+    /// The coins came to their end after so many bytes, which are too few for a seed.
+    ShortCoins {
+        have: u32,
+    },
     /// The self test found a vector that gives other bytes than it must. Fewer bytes than 32 are
     /// filled up with zeros at the end.
     BadVector {
@@ -41,7 +53,72 @@ pub fn status_number(status: &Status) -> u8
         Status::WriteFault => 4,
         Status::TooMany => 5,
         Status::NoMemory => 6,
+        Status::BadTable { .. } => 7,
+        Status::ShortCoins { .. } => 8,
         Status::BadVector { .. } => 9,
+    }
+}
+
+impl From<InputError> for Status {
+    ghost use Rattle.std.specs.Prelude.{◌≡◌};
+    ghost use Rattle.star_tool.specs.Status.{input_status};
+
+    ghost from_gives = { λ error status. status ≡ input_status error };
+
+    fn from(error: InputError) -> Self {
+        match error {
+            InputError::Read => Status::ReadFault,
+            InputError::TooMany => Status::TooMany,
+            InputError::NoMemory => Status::NoMemory,
+        }
+    }
+}
+
+impl From<TableError> for Status {
+    ghost use Rattle.std.specs.Prelude.{◌≡◌};
+    ghost use Rattle.star_tool.specs.Status.{table_status};
+
+    ghost from_gives = { λ error status. status ≡ table_status error };
+
+    fn from(error: TableError) -> Self {
+        match error {
+            TableError::TooMany => Status::TooMany,
+            TableError::BadTable { row, column } => Status::BadTable { row, column },
+            TableError::NoMemory => Status::NoMemory,
+        }
+    }
+}
+
+impl From<SelfTestError> for Status {
+    ghost use Rattle.std.specs.Prelude.{◌≡◌};
+    ghost use Rattle.star_tool.specs.Status.{self_test_status};
+
+    ghost from_gives = { λ error status. status ≡ self_test_status error };
+
+    fn from(error: SelfTestError) -> Self {
+        match error {
+            SelfTestError::Vector {
+                number,
+                got,
+                wanted,
+            } => Status::BadVector {
+                number,
+                got,
+                wanted,
+            },
+            SelfTestError::NoMemory => Status::NoMemory,
+        }
+    }
+}
+
+impl From<NoMemory> for Status {
+    ghost use Rattle.std.specs.Prelude.{◌≡◌};
+    ghost use Rattle.star_tool.specs.declared.status.Status.TheVariants as variant;
+
+    ghost from_gives = { λ _ status. status ≡ variant.NoMemory };
+
+    fn from(_: NoMemory) -> Self {
+        Status::NoMemory
     }
 }
 
@@ -51,15 +128,34 @@ pub fn status_line(alloc: Global, status: &Status) -> Result<Vec<u8>, NoMemory>
 {
     let line = match status {
         Status::Done => "",
-        Status::Usage => "usage: star_tool check | selftest\n",
+        Status::Usage =>
+            "usage: star_tool check | make --epoch E --thresholds K,.. [--seed HEX] | selftest\n",
         Status::ReadFault => "read fault\n",
         Status::WriteFault => "write fault\n",
         Status::TooMany => "too many\n",
         Status::NoMemory => "no memory\n",
+        Status::BadTable { row, column } => return bad_table_line(alloc, *row, *column),
+        Status::ShortCoins { have } => return short_coins_line(alloc, *have),
         Status::BadVector { number, .. } => return bad_vector_line(alloc, *number),
     };
     let bytes = Vec::from_slice(alloc, line.as_bytes())?;
     Ok(bytes)
+}
+
+fn bad_table_line(alloc: Global, row: u32, column: u32) -> Result<Vec<u8>, NoMemory>
+    ensures { IfOk result (λ line. line.items ≡ codes "bad table: row " ++ decimal row ++ codes " column " ++ decimal column ++ codes "\n") }
+{
+    let mut line = String::new(alloc);
+    write!(line, "bad table: row {row} column {column}\n")?;
+    Ok(line.into_bytes())
+}
+
+fn short_coins_line(alloc: Global, have: u32) -> Result<Vec<u8>, NoMemory>
+    ensures { IfOk result (λ line. line.items ≡ codes "short coins: " ++ decimal have ++ codes " bytes\n") }
+{
+    let mut line = String::new(alloc);
+    write!(line, "short coins: {have} bytes\n")?;
+    Ok(line.into_bytes())
 }
 
 fn bad_vector_line(alloc: Global, number: u8) -> Result<Vec<u8>, NoMemory>

@@ -3,46 +3,20 @@ ghost use Rattle.std.specs.Prelude.{◌≡◌, ◌≤◌, length, true, false, I
 ghost use Rattle.star_io.specs.Faults.{Rose, HasCause};
 ghost use Rattle.star_io.specs.Reading.{TakesRecord};
 ghost use Rattle.star_tool.specs.Stream.{IsWholeStream, LooksBehind, TakesOne};
-ghost use Rattle.star_tool.specs.declared.stream.StreamError.TheVariants.{Read, NoMemory};
 
+use crate::input::InputError;
 use star_io::{Failed, NextError, ReaderState, Record, RecordReader, Source};
-use std::alloc::{AllocFailed, Global};
+use std::alloc::Global;
 
 /// The most records of a stream.
 pub const MAX_RECORDS: usize = 65536;
 
-/// Why a stream isn't read to its end.
-#[derive(Clone, Copy, Debug, PartialEq, Eq)]
-pub enum StreamError {
-    /// A read failed.
-    Read,
-    /// A byte follows the last record that a stream may have.
-    TooMany,
-    NoMemory,
-}
-
-impl From<Failed> for StreamError {
-    ghost from_gives = { λ _ e. e ≡ Read };
-
-    fn from(_: Failed) -> Self {
-        StreamError::Read
-    }
-}
-
-impl<T: Drop> From<AllocFailed<T>> for StreamError {
-    ghost from_gives = { λ _ e. e ≡ NoMemory };
-
-    fn from(_: AllocFailed<T>) -> Self {
-        StreamError::NoMemory
-    }
-}
-
 /// All the records of a source.
-pub fn read_records<S: Source>(alloc: Global, input: &mut S) -> Result<Vec<Record>, StreamError>
+pub fn read_records<S: Source>(alloc: Global, input: &mut S) -> Result<Vec<Record>, InputError>
     ensures all { IfOk result (λ records. IsWholeStream records.items (S.left input.old) (S.left input.new)) }
     ensures few { IfOk result (λ records. length records.items ≤ MAX_RECORDS) }
-    ensures too_many { IsErrOf result StreamError.TooMany → LooksBehind (S.left input.old) (S.left input.new) }
-    ensures read { IsErrOf result StreamError.Read → Rose (S.faults input.old) (S.faults input.new) }
+    ensures too_many { IsErrOf result InputError.TooMany → LooksBehind (S.left input.old) (S.left input.new) }
+    ensures read { IsErrOf result InputError.Read → Rose (S.faults input.old) (S.faults input.new) }
     ensures later { S.faults input.old ≤ S.faults input.new }
 {
     let mut records = Vec::new(alloc);
@@ -51,14 +25,14 @@ pub fn read_records<S: Source>(alloc: Global, input: &mut S) -> Result<Vec<Recor
         match reader.next(alloc, input) {
             Ok(Some(found)) => records.push(found)?,
             Ok(None) => return Ok(records),
-            Err(NextError::Read) => return Err(StreamError::Read),
-            Err(NextError::NoMemory) => return Err(StreamError::NoMemory),
+            Err(NextError::Read) => return Err(InputError::Read),
+            Err(NextError::NoMemory) => return Err(InputError::NoMemory),
         }
     }
     if reader.state() == ReaderState::Ended || is_at_end(input)? {
         return Ok(records);
     }
-    Err(StreamError::TooMany)
+    Err(InputError::TooMany)
 }
 
 // Whether no byte is left. One that is left is taken.

@@ -43,7 +43,7 @@ impl Stream {
     }
 }
 
-fn words_from(alloc: Global, texts: &[&str]) -> Result<Words, NoMemory> {
+pub(crate) fn words_from(alloc: Global, texts: &[&str]) -> Result<Words, NoMemory> {
     let mut words = Words::new(alloc);
     for text in texts {
         words.push(text)?;
@@ -173,7 +173,7 @@ fn one_record_too_many_is_refused(rt: HostRuntime) -> Result<(), Fail> {
 fn selftest_prints_each_vector_and_reads_nothing(rt: HostRuntime) -> Result<(), Fail> {
     let alloc = rt.alloc();
     let wanted =
-        b"vector 1 ok\nvector 2 ok\nvector 3 ok\nvector 4 ok\nvector 5 ok\nvectors=5 ok=5\n";
+        b"vector 1 ok\nvector 2 ok\nvector 3 ok\nvector 4 ok\nvector 5 ok\nvector 6 ok\nvector 7 ok\nvectors=7 ok=7\n";
     let mut input = MemorySource::new(vec![in alloc; 0; 4]?, Vec::new(alloc), Vec::new(alloc));
     let mut out = MemorySink::new(alloc, 1000, Vec::new(alloc))?;
     assert_eq!(rt;
@@ -197,7 +197,7 @@ fn selftest_prints_each_vector_and_reads_nothing(rt: HostRuntime) -> Result<(), 
 #[test]
 fn faulty_words_touch_nothing(rt: HostRuntime) -> Result<(), Fail> {
     let alloc = rt.alloc();
-    let cases: [&[&str]; 8] = [
+    let cases: [&[&str]; 12] = [
         &[],
         &["look"],
         &["check", "x"],
@@ -206,6 +206,10 @@ fn faulty_words_touch_nothing(rt: HostRuntime) -> Result<(), Fail> {
         &["Check"],
         &[""],
         &["reveal", "--epoch", "7"],
+        &["make"],
+        &["make", "--epoch", "1", "--thresholds", "2,1"],
+        &["make", "--epoch", "1", "--thresholds", "2,,2"],
+        &["make", "--epoch", "1", "--thresholds", "2", "--seed", "00"],
     ];
     for words in cases {
         let mut input = MemorySource::new(vec![in alloc; 0; 4]?, Vec::new(alloc), Vec::new(alloc));
@@ -251,11 +255,25 @@ fn each_status_has_its_number_and_line(rt: HostRuntime) -> Result<(), Fail> {
     let alloc = rt.alloc();
     let cases = [
         (Status::Done, 0, ""),
-        (Status::Usage, 2, "usage: star_tool check | selftest\n"),
+        (
+            Status::Usage,
+            2,
+            "usage: star_tool check | make --epoch E --thresholds K,.. [--seed HEX] | selftest\n",
+        ),
         (Status::ReadFault, 3, "read fault\n"),
         (Status::WriteFault, 4, "write fault\n"),
         (Status::TooMany, 5, "too many\n"),
         (Status::NoMemory, 6, "no memory\n"),
+        (
+            Status::BadTable { row: 1, column: 0 },
+            7,
+            "bad table: row 1 column 0\n",
+        ),
+        (
+            Status::ShortCoins { have: 31 },
+            8,
+            "short coins: 31 bytes\n",
+        ),
         (
             Status::BadVector {
                 number: 5,
