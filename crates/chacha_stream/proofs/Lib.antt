@@ -1,2 +1,3 @@
+pub mod Exclusive
 pub mod Words
 pub mod StreamLaws

@@ -13,11 +13,24 @@ pub fn xor_stream(key: &[u8; 32], nonce: &[u8; 12], counter: u32, bytes: &mut [u
     ensures { bytes.new ≡ xor_bytes bytes.old (keystream key.now nonce.now counter 0 (length bytes.old)) }
 {
     let mut words = generator(key, nonce, counter);
-    let mut word = [0u8; 4];
+    let whole = bytes.len() / 4;
+    'words: for number in 0..whole {
+        let word = words.next_word().to_le_bytes();
+        xor_word(&mut bytes[4 * number..4 * number + 4], &word);
+    }
+    if bytes.len() % 4 > 0 {
+        let word = words.next_word().to_le_bytes();
+        xor_word(&mut bytes[4 * whole..], &word);
+    }
+}
+
+// Each byte becomes its exclusive or with the byte of the word at its place.
+#[inline]
+fn xor_word(bytes: &mut [u8], word: &[u8; 4])
+    requires { length bytes.old ≤ 4 }
+    ensures { bytes.new ≡ xor_bytes bytes.old word.now }
+{
     'bytes: for place in 0..bytes.len() {
-        if place % 4 == 0 {
-            word = words.next_word().to_le_bytes();
-        }
-        bytes[place] ^= word[place % 4];
+        bytes[place] ^= word[place];
     }
 }
