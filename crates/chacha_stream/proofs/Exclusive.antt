@@ -1,6 +1,5 @@
 -- The exclusive or of two lists, part by part.
-use Rattle.std.proofs.Common.{◌≡◌, ◌∙◌, ℕ, suc, ◌+◌, ◌<◌, ◌≤◌, List, [], ◌∷◌, ◌++◌, length, take, drop, get_or, bit_xor, refl, ap, ap₂, sym, arith}
-use Rattle.std.proofs.lemmas.List.{take-append-drop, take-take, drop-take}
+use Rattle.std.proofs.Common.{◌≡◌, ℕ, suc, ◌<◌, ◌≤◌, List, [], ◌∷◌, ◌++◌, length, get_or, bit_xor, refl, ap, ap₂, arith}
 use Rattle.chacha_stream.specs.Keystream.{xor_bytes}
 
 -- a list whose bytes are those of another, each with the byte of the stream at its place
@@ -28,9 +27,3 @@ xored-append [] ys [] vs len = refl
 xored-append [] ys (u ∷ us) vs len = absurd (omega arith)
 xored-append (x ∷ xs) ys [] vs len = absurd (omega arith)
 xored-append (x ∷ xs) ys (u ∷ us) vs len = ap (λ (t : List ℕ). bit_xor x u ∷ t) (xored-append xs ys us vs (omega arith))
-
--- the first m elements, and the n after them
-pub take_add : (m n : ℕ) (xs : List ℕ) → take (m + n) xs ≡ take m xs ++ take n (drop m xs)
-take_add m n xs =
-    sym (take-append-drop m (take (m + n) xs))
-    ∙ ap₂ (λ (ys zs : List ℕ). ys ++ zs) (take-take m (m + n) xs (omega arith)) (drop-take m n xs)

@@ -1,6 +1,7 @@
 -- The steps of the keystream.
 use Rattle.std.proofs.Common.{◌≡◌, ◌∙◌, ℕ, suc, ◌+◌, ◌-◌, ◌*◌, ◌/◌, ◌%◌, ◌^◌, ◌<◌, ◌≤◌, List, [], ◌∷◌, ◌++◌, length, map, take, drop, get_or, slice_index, refl, ap, ap₂, sym, arith, add_assoc}
 use Rattle.std.proofs.Math.Nat.{mod-eq_of_lt}
+use Rattle.std.proofs.Math.Seq.{take-add}
 use Rattle.std.proofs.lemmas.List.{length-drop, length-take-le}
 use Rattle.std.specs.Int.{w32, to_le_bytes}
 use Rattle.std.specs.List.{range_with_len}
@@ -8,7 +9,7 @@ use Rattle.rand_chacha.specs.ChaCha.{ChaCha, next_word, word_at, key_of}
 use Rattle.chacha_stream.specs.Generator.{generator_at}
 use Rattle.chacha_stream.specs.Keystream.{keystream, keystream_byte, keystream_word, stream_number, first_word, xor_bytes}
 use Rattle.chacha_stream.proofs.StreamLaws.{keystream_length, split}
-use Rattle.chacha_stream.proofs.Exclusive.{xored-append, xored-longer, take_add}
+use Rattle.chacha_stream.proofs.Exclusive.{xored-append, xored-longer}
 
 -- the next word of the generator, and where it stands then
 pub next_at : (key nonce : List ℕ) (counter i r : ℕ) (g next : ChaCha)
@@ -77,4 +78,4 @@ more_done key nonce counter i n old bytes piece done rest piece_is short within 
     let same : length (keystream key nonce counter 0 (4 * i)) ≡ length (take (4 * i) old) = keystream_length key nonce counter 0 (4 * i) ∙ sym front in
     ap₂ (λ (xs ys : List ℕ). xs ++ ys) done now
     ∙ sym (xored-append (take (4 * i) old) part (keystream key nonce counter 0 (4 * i)) (keystream key nonce counter (4 * i) n) same)
-    ∙ sym (ap₂ (λ (xs ys : List ℕ). xor_bytes xs ys) (take_add (4 * i) n old) stream)
+    ∙ sym (ap₂ (λ (xs ys : List ℕ). xor_bytes xs ys) (take-add (4 * i) n old) stream)
