@@ -86,7 +86,7 @@ pub fn run<R: Threads + Sync, S: Source, C: Source, K: Sink, G: Gate>(
     ensures untouched { result ≢ Status.Done → result ≢ Status.WriteFault → out.new ≡ out.old }
     ensures input_unread { command_of words.now ≡ Some Command.SelfTest → input.new ≡ input.old }
 
-    // Coins are taken only where they are wanted, only behind a good table, and no more than a seed has bytes.
+    // Coins are taken only where they are wanted, none where a table is refused, and no more than a seed has bytes.
     ensures coins_wanted { WantsCoins (command_of words.now) ⊎ (coins.new ≡ coins.old) }
     ensures coins_behind { (result ≡ Status.TooMany) ⊎ ((row : ℕ) × (column : ℕ) × (result ≡ Status.BadTable row column))
         → coins.new ≡ coins.old }

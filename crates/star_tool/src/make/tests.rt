@@ -1,5 +1,5 @@
 use crate::tests::words_from;
-use crate::{Status, run};
+use crate::{FileSource, Status, run};
 use recovery_pool::NoGate;
 use star_io::{FailAt, MemorySink, MemorySource};
 use std::alloc::Global;
@@ -132,5 +132,27 @@ fn an_empty_table_makes_no_call_of_put(rt: HostRuntime) -> Result<(), Fail> {
     trial.out = MemorySink::new(alloc, 1000, fails)?;
     assert_eq!(rt; trial.run(&rt, alloc, &RED_WORDS)?, Status::WriteFault);
     assert_eq!(rt; trial.out.told(), b"\0\0\0\x8dST".as_slice());
+    Ok(())
+}
+
+#[test]
+fn coins_of_a_file_are_taken_as_they_are_needed(rt: HostRuntime) -> Result<(), Fail> {
+    let alloc = rt.alloc();
+    let words = words_from(alloc, &RED_WORDS)?;
+    for (path, status, told) in [
+        ("/dev/zero", Status::Done, RED.as_slice()),
+        ("/dev/null", Status::ShortCoins { have: 0 }, &[]),
+        ("/dev/null/none", Status::ReadFault, &[]),
+    ] {
+        let mut trial = Trial::new(alloc, b"red\n", 0, &[])?;
+        let mut coins = FileSource::new(&rt, path);
+        let input = &mut trial.input;
+        let out = &mut trial.out;
+        assert_eq!(rt;
+            run(&rt, alloc, &words, input, &mut coins, &NoGate, out),
+            status
+        );
+        assert_eq!(rt; trial.out.told(), told);
+    }
     Ok(())
 }
