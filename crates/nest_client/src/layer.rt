@@ -16,8 +16,7 @@ use star_io::{Bytes, NoMemory};
 use std::alloc::Global;
 
 /// The frame of a client's report of this context, around a plain body. The first number of the
-/// share is raised by the shift. What the context derives is handed in, so that no hash is taken
-/// twice.
+/// share is raised by the shift. What the context derives is handed in, as the caller has it.
 pub(crate) fn layer_frame(
     alloc: Global,
     client: &Client,
