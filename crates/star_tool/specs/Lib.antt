@@ -5,3 +5,4 @@ pub mod SelfTest
 pub mod Make
 pub mod Run
 pub mod Reasons
+pub mod FileState

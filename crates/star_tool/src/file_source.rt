@@ -9,8 +9,8 @@ use std::io::Read;
 use std::marker::Model;
 use std::rt::Files;
 
-/// A source over a file that is opened at the first take, seen as its count of faults. It tells
-/// nothing of its bytes.
+/// A source over a file that is opened at the first take, seen as its path and its count of faults.
+/// It tells nothing of its bytes.
 ///
 /// It counts each failed opening, after which the next take tries again, and each failed read.
 #[derive(Drop)]
@@ -22,17 +22,17 @@ pub struct FileSource<'a, R: Files> {
 }
 
 impl<'a, R: Files> Model for FileSource<'a, R> {
-    ghost use Rattle.std.specs.Prelude.{ℕ};
+    ghost use Rattle.star_tool.specs.FileState.{FileState};
 
-    ghost Value = { ℕ };
+    ghost Value = { FileState };
 
-    ghost view = { λ s. s.faults };
+    ghost view = { λ s. record { path = s.path.now; faults = s.faults } };
 }
 
 impl<'a, R: Files> FileSource<'a, R> {
     /// A source over the file at this path, which isn't touched yet.
     pub fn new(files: &'a R, path: &'static str) -> FileSource<'a, R>
-        ensures { result ≡ 0 }
+        ensures { result ≡ record { path = path.now; faults = 0 } }
     {
         FileSource {
             files,
@@ -48,13 +48,14 @@ impl<'a, R: Files> Source for FileSource<'a, R> {
 
     ghost left = { λ _. None };
 
-    ghost faults = { λ s. s };
+    ghost faults = { λ s. s.faults };
 
     fn take(&mut self, into: &mut [u8]) -> Result<usize, Failed>
         ensures bound { ReadsAtMost result into.new }
         ensures bytes { ReadConsumes None None result into.new }
-        ensures cause { HasCause self.old self.new result }
-        ensures counts { CountsFault self.old self.new result }
+        ensures cause { HasCause self.old.faults self.new.faults result }
+        ensures counts { CountsFault self.old.faults self.new.faults result }
+        ensures path { self.new.path ≡ self.old.path }
     {
         let result = read_file(self.files, self.path, &mut self.file, into);
         if result.is_err() {
