@@ -1,0 +1,4 @@
+pub mod Answers
+pub mod Standing
+pub mod Steps
+pub mod Seen

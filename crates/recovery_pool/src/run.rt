@@ -1,0 +1,112 @@
+ghost use Rattle.std.specs.Prelude.{◌≡◌, ℕ, ◌<◌, ◌≤◌, true, false, [], IfOk, vec_len, slice_index_or};
+ghost use Rattle.std.specs.Thread.{IsSync, IsSend};
+ghost use Rattle.recovery_pool.specs.declared.limits.TheConstants.{MAX_JOBS, MAX_WORKERS};
+ghost use Rattle.recovery_pool.specs.Answers.{AnswersDrawn};
+
+use crate::entry::Entry;
+use crate::gate::Gate;
+use crate::job::Job;
+use crate::order::in_order;
+use crate::pass::Pass;
+use crate::tickets::Tickets;
+use star_io::NoMemory;
+use std::alloc::Global;
+use std::thread::{Threads, join};
+
+/// Does all jobs by so many workers. Entry i of the list answers job i.
+///
+/// Each worker draws the next number until none is left. It passes the gate at the start of each
+/// job, with the level and the job's number.
+///
+/// # Errors
+///
+/// `NoMemory` where a job answers it, or where there is no memory for the list. A worker whose job
+/// answers `NoMemory` stops; the others go on until no number is left.
+pub fn run_jobs<R: Threads + Sync, J: Job, G: Gate>(
+    rt: &R,
+    alloc: Global,
+    level: u8,
+    jobs: &J,
+    workers: u32,
+    gate: &G,
+) -> Result<Vec<J::Out>, NoMemory>
+    requires jobs { J.jobs jobs.now ≤ MAX_JOBS }
+    requires workers { (1 ≤ workers) × (workers ≤ MAX_WORKERS) }
+    ensures len { IfOk result (λ v. vec_len v ≡ J.jobs jobs.now) }
+    ensures each { IfOk result (λ v. (i : ℕ) (d : J.Out) → i < J.jobs jobs.now
+        → J.answers jobs.now i (slice_index_or v.items i d)) }
+{
+    let count = jobs.count();
+    let (tickets, pass) = Tickets::new(alloc, count, workers)?;
+    let (pass, entries) = run_workers(rt, alloc, level, jobs, &tickets, pass, gate)?;
+    tickets.close(pass);
+    in_order(alloc, jobs, count as usize, entries)
+}
+
+// One worker draws until no number is left.
+fn work_until_none<J: Job, G: Gate>(
+    alloc: Global,
+    level: u8,
+    jobs: &J,
+    tickets: &Tickets,
+    mut pass: Pass,
+    gate: &G,
+) -> Result<(Pass, Vec<Entry<J::Out>>), NoMemory>
+    requires jobs { tickets.now.id.jobs ≡ J.jobs jobs.now }
+    requires belongs { pass.of ≡ tickets.now.id }
+    requires begins { (pass.spent ≡ false) × (pass.drawn ≡ []) }
+    ensures belongs { IfOk result (λ r. r.0.of ≡ tickets.now.id) }
+    ensures pass { IfOk result (λ r. (r.0.spent ≡ true) × (r.0.share ≡ pass.share)) }
+    ensures answered { IfOk result (λ r. AnswersDrawn (J.answers jobs.now) r.0.drawn r.1.items) }
+{
+    let mut entries = Vec::new(alloc);
+    while let Some(number) = tickets.draw(&mut pass) {
+        gate.pass(level, number);
+        let out = jobs.work(alloc, number)?;
+        entries.push(Entry { number, out })?;
+    }
+    Ok((pass, entries))
+}
+
+// As many workers as the pass has shares, each in a thread of its own.
+#[cycle(workers)]
+fn run_workers<R: Threads + Sync, J: Job, G: Gate>(
+    rt: &R,
+    alloc: Global,
+    level: u8,
+    jobs: &J,
+    tickets: &Tickets,
+    mut pass: Pass,
+    gate: &G,
+) -> Result<(Pass, Vec<Entry<J::Out>>), NoMemory>
+    requires jobs { tickets.now.id.jobs ≡ J.jobs jobs.now }
+    requires belongs { pass.of ≡ tickets.now.id }
+    requires begins { (pass.spent ≡ false) × (pass.drawn ≡ []) }
+    ensures belongs { IfOk result (λ r. r.0.of ≡ tickets.now.id) }
+    ensures pass { IfOk result (λ r. (r.0.spent ≡ true) × (r.0.share ≡ pass.share)) }
+    ensures answered { IfOk result (λ r. AnswersDrawn (J.answers jobs.now) r.0.drawn r.1.items) }
+{
+    let share = pass.share();
+    if share < 2 {
+        return work_until_none(alloc, level, jobs, tickets, pass, gate);
+    }
+    let other = tickets.split(&mut pass, share / 2);
+    let front = move || -> Result<(Pass, Vec<Entry<J::Out>>), NoMemory>
+        requires { IsSync R.row × IsSync J.row × IsSync G.row × IsSend J.Out.row × (tickets.now.id.jobs ≡ J.jobs jobs.now) × (pass.of ≡ tickets.now.id) × (pass.spent ≡ false) × (pass.drawn ≡ []) }
+        ensures belongs { IfOk result (λ r. r.0.of ≡ tickets.entry.now.id) }
+        ensures pass { IfOk result (λ r. (r.0.spent ≡ true) × (r.0.share ≡ pass.share)) }
+        ensures answered { IfOk result (λ r. AnswersDrawn (J.answers jobs.entry.now) r.0.drawn r.1.items) }
+    { run_workers(rt, alloc, level, jobs, tickets, pass, gate) };
+    let back = move || -> Result<(Pass, Vec<Entry<J::Out>>), NoMemory>
+        requires { IsSync R.row × IsSync J.row × IsSync G.row × IsSend J.Out.row × (tickets.now.id.jobs ≡ J.jobs jobs.now) × (other.of ≡ tickets.now.id) × (other.spent ≡ false) × (other.drawn ≡ []) }
+        ensures belongs { IfOk result (λ r. r.0.of ≡ tickets.entry.now.id) }
+        ensures pass { IfOk result (λ r. (r.0.spent ≡ true) × (r.0.share ≡ other.share)) }
+        ensures answered { IfOk result (λ r. AnswersDrawn (J.answers jobs.entry.now) r.0.drawn r.1.items) }
+    { run_workers(rt, alloc, level, jobs, tickets, other, gate) };
+    let (front, back) = join(rt, front, back);
+    let (mut pass, mut entries) = front?;
+    let (other, mut others) = back?;
+    tickets.join(&mut pass, other);
+    entries.append(&mut others)?;
+    Ok((pass, entries))
+}
