@@ -1,4 +1,5 @@
 pub mod Answers
+pub mod Shifts
 pub mod Standing
 pub mod Steps
 pub mod Seen

@@ -1,9 +1,9 @@
-ghost use Rattle.std.specs.Prelude.{◌≡◌, ℕ, ◌<◌, ◌≤◌, true, false, [], IfOk, vec_len, slice_index_or};
+ghost use Rattle.std.specs.Prelude.{◌≡◌, ℕ, ◌<◌, ◌≤◌, IfOk, vec_len, slice_index_or};
 ghost use Rattle.std.specs.Thread.{IsSync, IsSend};
 ghost use Rattle.recovery_pool.specs.declared.limits.TheConstants.{MAX_JOBS, MAX_WORKERS};
-ghost use Rattle.recovery_pool.specs.Answers.{AnswersDrawn};
+ghost use Rattle.recovery_pool.specs.Shifts.{HasEnded, IsFresh};
 
-use crate::entry::Entry;
+use crate::entry::{Entry, Shift};
 use crate::gate::Gate;
 use crate::job::Job;
 use crate::order::in_order;
@@ -38,7 +38,7 @@ pub fn run_jobs<R: Threads + Sync, J: Job, G: Gate>(
 {
     let count = jobs.count();
     let (tickets, pass) = Tickets::new(alloc, count, workers)?;
-    let (pass, entries) = run_workers(rt, alloc, level, jobs, &tickets, pass, gate)?;
+    let Shift { pass, entries } = run_workers(rt, alloc, level, jobs, &tickets, pass, gate)?;
     tickets.close(pass);
     in_order(alloc, jobs, count as usize, entries)
 }
@@ -51,13 +51,11 @@ fn work_until_none<J: Job, G: Gate>(
     tickets: &Tickets,
     mut pass: Pass,
     gate: &G,
-) -> Result<(Pass, Vec<Entry<J::Out>>), NoMemory>
+) -> Result<Shift<J::Out>, NoMemory>
     requires jobs { tickets.now.id.jobs ≡ J.jobs jobs.now }
-    requires belongs { pass.of ≡ tickets.now.id }
-    requires begins { (pass.spent ≡ false) × (pass.drawn ≡ []) }
-    ensures belongs { IfOk result (λ r. r.0.of ≡ tickets.now.id) }
-    ensures pass { IfOk result (λ r. (r.0.spent ≡ true) × (r.0.share ≡ pass.share)) }
-    ensures answered { IfOk result (λ r. AnswersDrawn (J.answers jobs.now) r.0.drawn r.1.items) }
+    requires begins { IsFresh tickets.now.id pass }
+    ensures { IfOk result (λ s. HasEnded (J.answers jobs.now) tickets.now.id pass.share
+        s.pass s.entries.items) }
 {
     let mut entries = Vec::new(alloc);
     while let Some(number) = tickets.draw(&mut pass) {
@@ -65,7 +63,7 @@ fn work_until_none<J: Job, G: Gate>(
         let out = jobs.work(alloc, number)?;
         entries.push(Entry { number, out })?;
     }
-    Ok((pass, entries))
+    Ok(Shift { pass, entries })
 }
 
 // As many workers as the pass has shares, each in a thread of its own.
@@ -78,35 +76,35 @@ fn run_workers<R: Threads + Sync, J: Job, G: Gate>(
     tickets: &Tickets,
     mut pass: Pass,
     gate: &G,
-) -> Result<(Pass, Vec<Entry<J::Out>>), NoMemory>
+) -> Result<Shift<J::Out>, NoMemory>
     requires jobs { tickets.now.id.jobs ≡ J.jobs jobs.now }
-    requires belongs { pass.of ≡ tickets.now.id }
-    requires begins { (pass.spent ≡ false) × (pass.drawn ≡ []) }
-    ensures belongs { IfOk result (λ r. r.0.of ≡ tickets.now.id) }
-    ensures pass { IfOk result (λ r. (r.0.spent ≡ true) × (r.0.share ≡ pass.share)) }
-    ensures answered { IfOk result (λ r. AnswersDrawn (J.answers jobs.now) r.0.drawn r.1.items) }
+    requires begins { IsFresh tickets.now.id pass }
+    ensures { IfOk result (λ s. HasEnded (J.answers jobs.now) tickets.now.id pass.share
+        s.pass s.entries.items) }
 {
     let share = pass.share();
     if share < 2 {
         return work_until_none(alloc, level, jobs, tickets, pass, gate);
     }
     let other = tickets.split(&mut pass, share / 2);
-    let front = move || -> Result<(Pass, Vec<Entry<J::Out>>), NoMemory>
-        requires { IsSync R.row × IsSync J.row × IsSync G.row × IsSend J.Out.row × (tickets.now.id.jobs ≡ J.jobs jobs.now) × (pass.of ≡ tickets.now.id) × (pass.spent ≡ false) × (pass.drawn ≡ []) }
-        ensures belongs { IfOk result (λ r. r.0.of ≡ tickets.entry.now.id) }
-        ensures pass { IfOk result (λ r. (r.0.spent ≡ true) × (r.0.share ≡ pass.share)) }
-        ensures answered { IfOk result (λ r. AnswersDrawn (J.answers jobs.entry.now) r.0.drawn r.1.items) }
+    let front = move || -> Result<Shift<J::Out>, NoMemory>
+        requires threads { IsSync R.row × IsSync J.row × IsSync G.row × IsSend J.Out.row }
+        requires jobs { tickets.now.id.jobs ≡ J.jobs jobs.now }
+        requires begins { IsFresh tickets.now.id pass }
+        ensures { IfOk result (λ s. HasEnded (J.answers jobs.entry.now) tickets.entry.now.id
+            pass.share s.pass s.entries.items) }
     { run_workers(rt, alloc, level, jobs, tickets, pass, gate) };
-    let back = move || -> Result<(Pass, Vec<Entry<J::Out>>), NoMemory>
-        requires { IsSync R.row × IsSync J.row × IsSync G.row × IsSend J.Out.row × (tickets.now.id.jobs ≡ J.jobs jobs.now) × (other.of ≡ tickets.now.id) × (other.spent ≡ false) × (other.drawn ≡ []) }
-        ensures belongs { IfOk result (λ r. r.0.of ≡ tickets.entry.now.id) }
-        ensures pass { IfOk result (λ r. (r.0.spent ≡ true) × (r.0.share ≡ other.share)) }
-        ensures answered { IfOk result (λ r. AnswersDrawn (J.answers jobs.entry.now) r.0.drawn r.1.items) }
+    let back = move || -> Result<Shift<J::Out>, NoMemory>
+        requires threads { IsSync R.row × IsSync J.row × IsSync G.row × IsSend J.Out.row }
+        requires jobs { tickets.now.id.jobs ≡ J.jobs jobs.now }
+        requires begins { IsFresh tickets.now.id other }
+        ensures { IfOk result (λ s. HasEnded (J.answers jobs.entry.now) tickets.entry.now.id
+            other.share s.pass s.entries.items) }
     { run_workers(rt, alloc, level, jobs, tickets, other, gate) };
     let (front, back) = join(rt, front, back);
-    let (mut pass, mut entries) = front?;
-    let (other, mut others) = back?;
-    tickets.join(&mut pass, other);
-    entries.append(&mut others)?;
-    Ok((pass, entries))
+    let mut front = front?;
+    let mut back = back?;
+    tickets.join(&mut front.pass, back.pass);
+    front.entries.append(&mut back.entries)?;
+    Ok(front)
 }

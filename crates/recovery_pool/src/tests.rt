@@ -11,7 +11,7 @@ use std::thread;
 const LOOKS: u64 = 1_000_000_000;
 
 // After so many looks it leaves the processor to others.
-const LOOKS_IN_A_ROW: u64 = 1024;
+const LOOKS_IN_A_ROW: u64 = 65_536;
 
 // Job i is answered by 2 i.
 #[derive(Drop)]
