@@ -2,7 +2,7 @@
 //!
 //! Each function does nothing, and its clause is the law. `TicketsStand` is the rule of the word:
 //! each kind of step keeps it, so it holds between any two steps, for any passes in any threads.
-ghost use Rattle.std.specs.Prelude.{◌≡◌, ◌≢◌, ℕ, ◌+◌, ◌<◌, ◌≤◌, false, true, List, [], ◌∷◌, ◌++◌, length, slice_set};
+ghost use Rattle.std.specs.Prelude.{◌≡◌, ◌≢◌, ℕ, ◌+◌, ◌<◌, ◌≤◌, false, true, List, [], ◌∷◌, ◌++◌, slice_set};
 ghost use mathlib.Core.Option.{some};
 ghost use lib.ListN.{get_elem?};
 ghost use Rattle.recovery_pool.specs.declared.pass_view.PassView.{PassView};

@@ -7,6 +7,9 @@ use std::sync::atomic::{AtomicU64, Ordering};
 use std::test::Fail;
 use std::thread;
 
+// The level at which the gates act.
+const LEVEL: u8 = 3;
+
 // How often a gate looks before it gives up.
 const LOOKS: u64 = 1_000_000_000;
 
@@ -59,7 +62,10 @@ struct Meeting {
 }
 
 impl Gate for Meeting {
-    fn pass(&self, _level: u8, _job: u64) {
+    fn pass(&self, level: u8, _job: u64) {
+        if level != LEVEL {
+            return;
+        }
         self.come.fetch_add(1, Ordering::SeqCst);
         if is_reached(&self.come, 2) {
             self.let_go.fetch_add(1, Ordering::SeqCst);
@@ -76,7 +82,10 @@ struct LastOfAll {
 }
 
 impl Gate for LastOfAll {
-    fn pass(&self, _level: u8, job: u64) {
+    fn pass(&self, level: u8, job: u64) {
+        if level != LEVEL {
+            return;
+        }
         if job > 0 {
             self.passed.fetch_add(1, Ordering::SeqCst);
         } else if is_reached(&self.passed, self.others) {
@@ -144,7 +153,7 @@ fn two_workers_run_beside_each_other(rt: HostRuntime) -> Result<(), Fail> {
         come: AtomicU64::new(0),
         let_go: AtomicU64::new(0),
     };
-    let outs = run_jobs(&rt, rt.alloc(), 0, &Doubles { count: 2 }, 2, &gate)?;
+    let outs = run_jobs(&rt, rt.alloc(), LEVEL, &Doubles { count: 2 }, 2, &gate)?;
     assert_eq!(rt; outs.as_slice(), [0, 2].as_slice());
     assert_eq!(rt; gate.let_go.load(Ordering::SeqCst), 2);
     Ok(())
@@ -158,7 +167,7 @@ fn a_free_worker_takes_the_next_job(rt: HostRuntime) -> Result<(), Fail> {
             passed: AtomicU64::new(0),
             let_go: AtomicU64::new(0),
         };
-        let outs = run_jobs(&rt, rt.alloc(), 0, &Doubles { count }, workers, &gate)?;
+        let outs = run_jobs(&rt, rt.alloc(), LEVEL, &Doubles { count }, workers, &gate)?;
         assert_eq!(rt; outs.len() as u64, count);
         for (i, out) in outs.iter().enumerate() {
             assert_eq!(rt; *out, 2 * i as u64);
@@ -170,7 +179,7 @@ fn a_free_worker_takes_the_next_job(rt: HostRuntime) -> Result<(), Fail> {
 
 #[test]
 fn no_jobs_give_the_empty_list(rt: HostRuntime) -> Result<(), Fail> {
-    let outs = run_jobs(&rt, rt.alloc(), 0, &Doubles { count: 0 }, 64, &NoGate)?;
+    let outs = run_jobs(&rt, rt.alloc(), LEVEL, &Doubles { count: 0 }, 64, &NoGate)?;
     assert_eq!(rt; outs.len(), 0);
     Ok(())
 }
