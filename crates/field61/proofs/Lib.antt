@@ -8,3 +8,4 @@ pub mod Modulus
 pub mod Pocklington
 pub mod Powers
 pub mod Trial
+pub mod Totals

@@ -1,8 +1,9 @@
-ghost use Rattle.std.specs.Prelude.{◌≡◌, ◌<◌, ◌↔◌, ℕ, length, slice_index, IsSome, IsNone, IfSome};
+ghost use Rattle.std.specs.Prelude.{◌≡◌, ◌<◌, ◌↔◌, ◌%◌, ℕ, length, slice_index, IsSome, IsNone, IfSome};
+ghost use Rattle.field61.specs.declared.TheConstants.{MODULUS};
 ghost use Rattle.field61.specs.Field.{field_sum, field_difference, field_negative, field_product, field_power, AreElements};
 
 use crate::MODULUS;
-use crate::fold::{folded, reduced};
+use crate::fold::{folded, folded_sum, reduced};
 use std::marker::Model;
 
 /// A field element: a number below `MODULUS`.
@@ -51,6 +52,13 @@ impl Fe {
         self.value
     }
 
+    /// Makes it known in proofs that the number is below the modulus.
+    pub fn know_element(self)
+        ensures { self < MODULUS }
+    {
+        let _number = self.value();
+    }
+
     pub fn add(self, other: Fe) -> Fe
         ensures sum { result ≡ field_sum self other }
         ensures below { result < MODULUS }
@@ -87,6 +95,16 @@ impl Fe {
         }
     }
 
+    // The remainder of a number.
+    pub(crate) fn of_total(total: u128) -> Fe
+        ensures same { result ≡ total % MODULUS }
+        ensures below { result < MODULUS }
+    {
+        Fe {
+            value: folded_sum(total),
+        }
+    }
+
     /// The power. Its exponent is a plain number, and 0 gives 1.
     pub fn pow(self, e: u64) -> Fe
         ensures power { result ≡ field_power self e }
@@ -119,12 +137,12 @@ impl Fe {
     }
 }
 
-/// Says that each number of a slice is below the modulus. A proof about elements in a slice has no
-/// such bound before this call.
-pub fn known(elements: &[Fe])
+/// Makes it known in proofs that each number of a slice is below the modulus. A proof about elements in
+/// a slice has no such bound before this call, and nothing else comes of it.
+pub fn know_elements(elements: &[Fe])
     ensures { AreElements elements.now }
 {
     for element in elements {
-        let _number = element.value();
+        element.know_element();
     }
 }

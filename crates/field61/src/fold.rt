@@ -25,3 +25,14 @@ pub(crate) fn folded(product: u128) -> u64
     let high = (product >> 61) as u64;
     reduced(low + high)
 }
+
+/// The remainder of any number of 128 bits.
+pub(crate) fn folded_sum(total: u128) -> u64
+    ensures { result ≡ total % MODULUS }
+{
+    let low = (total & MODULUS as u128) as u64;
+    let middle = ((total >> 61) & MODULUS as u128) as u64;
+    let high = (total >> 122) as u64;
+    let sum = low + middle + high;
+    reduced((sum & MODULUS) + (sum >> 61))
+}

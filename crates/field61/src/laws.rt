@@ -8,6 +8,17 @@ ghost use Rattle.field61.specs.Field.{field_sum, field_difference, field_negativ
 ghost use Rattle.field61.specs.Laws.{IsCommutativeRing, HasOneInverse};
 ghost use Rattle.field61.specs.Prime.{IsPrime, HasWitness, product_of};
 
+use crate::element::Fe;
+
+/// The numbers behind the names. Its result is ZERO and ONE.
+pub fn limits() -> (Fe, Fe)
+    ensures modulus { MODULUS ≡ 2305843009213693951 }
+    ensures zero { result.0 ≡ 0 }
+    ensures one { result.1 ≡ 1 }
+{
+    (Fe::ZERO, Fe::ONE)
+}
+
 /// Fermat's little theorem.
 pub fn fermat()
     ensures { (r a : ℕ) → IsPrime r → (r ∣ a → ⊥) → a ^ (r - 1) % r ≡ 1 }

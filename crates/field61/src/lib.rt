@@ -8,8 +8,10 @@
 mod element;
 mod fold;
 pub mod laws;
+mod sums;
 
-pub use element::{Fe, known};
+pub use element::{Fe, know_elements};
+pub use sums::{sum_of_products, sum_of_two};
 
 /// The modulus, 2^61 - 1. It is prime.
 pub const MODULUS: u64 = 2305843009213693951;

@@ -117,7 +117,7 @@ fn knows_the_ends(rt: HostRuntime) -> Result<(), Fail> {
     let two = Fe::new(2).ok_or("an element")?;
     let half = Fe::new(1152921504606846976).ok_or("an element")?;
     let last = Fe::new(MODULUS - 1).ok_or("an element")?;
-    known(&[Fe::ZERO, Fe::ONE, last]);
+    know_elements(&[Fe::ZERO, Fe::ONE, last]);
     assert_eq!(rt; two.mul(half), Fe::ONE);
     assert_eq!(rt; two.inverse(), Some(half));
     assert_eq!(rt; last.mul(last), Fe::ONE);

@@ -5,3 +5,4 @@ pub mod Choice
 pub mod Decoded
 pub mod Finding
 pub mod Search
+pub mod Rows

@@ -2,3 +2,4 @@ pub mod Decoding
 pub mod Search
 pub mod Sequence
 pub mod Choosing
+pub mod Halving

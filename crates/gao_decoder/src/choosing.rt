@@ -5,7 +5,7 @@ ghost use Rattle.poly61.specs.Poly.{value, HasDegreeBelow, SameCoefficients, Are
 ghost use Rattle.gao_decoder.specs.Decoding.{agreement};
 ghost use Rattle.gao_decoder.specs.Choosing.{nonzero_count, IsChosen};
 
-use field61::{Fe, known};
+use field61::{Fe, know_elements};
 use poly61::Poly;
 
 // Chooses point i where fewer than k are chosen and w is not 0 there, and answers how many are
@@ -69,7 +69,7 @@ pub(crate) fn choose(
         → ((i : ℕ) → i < length xs.now → value w.now (slice_index xs.now i) ≢ 0 → value f (slice_index xs.now i) ≡ slice_index ys.now i)
         → SameCoefficients candidate.new f }
 {
-    known(xs);
+    know_elements(xs);
     candidate.clear();
     work.clear();
     work.set_coefficient(0, Fe::ONE);
@@ -77,7 +77,7 @@ pub(crate) fn choose(
     for i in 0..xs.len() {
         chosen = choose_one(candidate, work, w, xs, ys, i, chosen, k);
     }
-    let _elements = candidate.room();
+    candidate.know();
 }
 
 /// At how many points the polynomial has the value y.

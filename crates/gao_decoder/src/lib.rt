@@ -4,7 +4,9 @@
 
 mod choosing;
 mod decoder;
+mod halving;
 pub mod laws;
+mod sampling;
 mod scratch;
 mod sequence;
 

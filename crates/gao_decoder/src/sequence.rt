@@ -9,7 +9,7 @@ use poly61::Poly;
 use std::mem;
 
 // The degree of the remainder where the sequence goes on after it.
-fn goes_on(lower: &Poly, bound: usize) -> Option<usize>
+pub(crate) fn goes_on(lower: &Poly, bound: usize) -> Option<usize>
     requires { bound < 2 ^ 63 }
     ensures degree { IfSome result (HasDegree lower.now) }
     ensures on { IfSome result (λ d. bound ≤ 2 * d) }
@@ -60,12 +60,12 @@ fn reduce(
     ensures cofactor { HasDegree upper_cofactor.new (cofactor_top + (top - low)) }
 {
     let inverse = inverse_at(lower, low);
-    let _below = inverse.value();
+    inverse.know_element();
     for shift in (0..top - low + 1).rev() {
         let c = upper.coefficient(low + shift).mul(inverse);
-        let _elements = upper.room();
-        let _elements = upper_cofactor.room();
-        let _elements = lower_cofactor.room();
+        upper.know();
+        upper_cofactor.know();
+        lower_cofactor.know();
         upper.take_off(c, shift, lower);
         upper_cofactor.take_off(c, shift, lower_cofactor);
     }

@@ -6,3 +6,4 @@ pub mod Lists
 pub mod Values
 pub mod Products
 pub mod PolynomialLaws
+pub mod Convolution

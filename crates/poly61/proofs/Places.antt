@@ -3,7 +3,7 @@ use Rattle.std.proofs.Common.{ℕ, zero, suc, ◌+◌, ◌-◌, ◌<◌, ◌≤�
 use Rattle.field61.specs.declared.TheConstants.{MODULUS}
 use Rattle.field61.specs.Field.{field_sum, field_product, field_power}
 use Rattle.field61.proofs.FieldLaws.{power_zero, ring, modulus_positive, sum_below, sum_associates, sum_zero, product_zero, zero_product, product_associates, product_left_commutes, product_one, one_product, product_distributes}
-use Rattle.poly61.specs.Poly.{field_total}
+use Rattle.field61.specs.Sums.{field_total}
 use Rattle.poly61.proofs.Elements.{zero_sum_zero, zero_sum_product, power-suc}
 
 -- zero from this place on

@@ -6,7 +6,8 @@ use Rattle.std.proofs.lemmas.List.Elements.{All-get_or, All-from_get_or}
 use Rattle.field61.specs.declared.TheConstants.{MODULUS}
 use Rattle.field61.specs.Field.{field_product, field_power, AreElements}
 use Rattle.field61.proofs.FieldLaws.{modulus_positive}
-use Rattle.poly61.specs.Poly.{value, field_total, HasDegree, HasDegreeBelow, SameCoefficients, AreDistinct}
+use Rattle.field61.specs.Sums.{field_total}
+use Rattle.poly61.specs.Poly.{value, HasDegree, HasDegreeBelow, SameCoefficients, AreDistinct}
 use Rattle.poly61.specs.Vanishing.{vanishing_of, difference_product, IsVanishingMultiple}
 use Rattle.poly61.proofs.Elements.{one_is_not_zero}
 use Rattle.poly61.proofs.Places.{value_to-sum, IsBounded}
@@ -25,7 +26,7 @@ roots_are_few f xs d f_elements xs_elements distinct degree roots =
     omega (arith, all, few_roots (length xs) d (coefficient_of xs) (coefficient_of f) distinct (AreElements-bounded xs xs_elements) (AreElements-bounded f f_elements) degree.top)
 
 -- two polynomials of degree below n that agree at n distinct points are equal
-same_below : (f g : List ℕ) (n : ℕ) (a : ℕ → ℕ) → AreElements f → AreElements g → AreApart n a → IsBounded a → HasDegreeBelow f n → HasDegreeBelow g n → ((i : ℕ) → i < n → value f (a i) ≡ value g (a i)) → SameCoefficients f g
+pub same_below : (f g : List ℕ) (n : ℕ) (a : ℕ → ℕ) → AreElements f → AreElements g → AreApart n a → IsBounded a → HasDegreeBelow f n → HasDegreeBelow g n → ((i : ℕ) → i < n → value f (a i) ≡ value g (a i)) → SameCoefficients f g
 same_below f g n a f_elements g_elements apart a_below f_below g_below agree i = elim (cases_lt i n) [
   | inl within ↦ same_from_agreement n n a (coefficient_of f) (coefficient_of g) apart a_below (AreElements-bounded f f_elements) (AreElements-bounded g g_elements)
       (count_to-all n _ (λ j less. eq-eqb _ _ (sym (value-places n f (a j) f_below) ∙ agree j less ∙ value-places n g (a j) g_below))) i within

@@ -1,3 +1,4 @@
 pub mod Counts
 pub mod Poly
 pub mod Vanishing
+pub mod Blocks

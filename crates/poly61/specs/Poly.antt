@@ -1,5 +1,5 @@
 -- A polynomial is the list of its coefficients from the lowest. Zeros at its end don't count.
-use Rattle.std.specs.Prelude.{ℕ, zero, suc, ◌+◌, ◌≤◌, ◌<◌, ◌≡◌, ◌≢◌, List, [], ◌∷◌, length, slice_index}
+use Rattle.std.specs.Prelude.{ℕ, ◌+◌, ◌≤◌, ◌<◌, ◌≡◌, ◌≢◌, List, [], ◌∷◌, length, slice_index}
 use Rattle.field61.specs.Field.{field_sum, field_difference, field_product, AreElements}
 
 -- the value at x, by Horner's rule
@@ -42,11 +42,6 @@ AreDistinct xs = (i j : ℕ) → i < j → j < length xs → slice_index xs i �
 -- at each x the polynomial has the value y
 abbrev pub PassesThrough : List ℕ → List ℕ → List ℕ → Type 0
 PassesThrough f xs ys = (i : ℕ) → i < length xs → value f (slice_index xs i) ≡ slice_index ys i
-
--- the sum of the first n terms
-abbrev pub field_total : ℕ → (ℕ → ℕ) → ℕ
-field_total zero term = 0
-field_total (suc n) term = field_sum (term 0) (field_total n (λ i. term (suc i)))
 
 -- what the buffer of a polynomial keeps: field elements, which are 0 from this place on
 pub record HoldsPlaces (coefficients : List ℕ) (places : ℕ) : Type 0 where

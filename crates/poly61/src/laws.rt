@@ -3,7 +3,8 @@
 ghost use Rattle.std.specs.Prelude.{◌≡◌, ℕ, ◌<◌, ◌≤◌, ◌+◌, List, length, slice_index, All};
 ghost use Rattle.field61.specs.Field.{field_product, field_power, AreElements};
 ghost use Rattle.field61.specs.declared.TheConstants.{MODULUS};
-ghost use Rattle.poly61.specs.Poly.{value, field_total, HasDegree, HasDegreeBelow, SameCoefficients, AreDistinct};
+ghost use Rattle.field61.specs.Sums.{field_total};
+ghost use Rattle.poly61.specs.Poly.{value, HasDegree, HasDegreeBelow, SameCoefficients, AreDistinct};
 ghost use Rattle.poly61.specs.Vanishing.{vanishing_of, difference_product, IsVanishingMultiple};
 
 /// The value at x is the sum of the c_i · x^i.

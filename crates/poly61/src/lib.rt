@@ -4,10 +4,12 @@
 //! polynomial has no more roots than its degree, and values at enough points determine it.
 #![tactic(auto)]
 
+mod blocks;
 mod coefficients;
 pub mod laws;
 mod poly;
 
+pub use blocks::fill_powers;
 pub use poly::Poly;
 
 #[cfg(test)]

@@ -1,16 +1,21 @@
-ghost use Rattle.std.specs.Prelude.{◌≡◌, ◌≢◌, ◌⊎◌, ◌↔◌, ℕ, ◌<◌, ◌+◌, ◌-◌, length, slice_index, slice_set, Some, IsNone, IfOk};
-ghost use Rattle.field61.specs.Field.{field_difference, field_product, AreElements};
+ghost use Rattle.std.specs.Prelude.{IsTrue, ◌≡◌, ◌≢◌, ◌⊎◌, ◌↔◌, ℕ, ◌<◌, ◌+◌, ◌-◌, length, slice_index, slice_set, Some, IsNone, IfOk};
+ghost use Rattle.field61.specs.Field.{field_difference, field_product, field_power, AreElements};
 ghost use Rattle.field61.specs.declared.TheConstants.{MODULUS};
 ghost use Rattle.poly61.specs.Poly.{value, IsZero, HasDegree, HasDegreeBelow, SameCoefficients, IsLinearMultiple, TakesOff, AreDistinct, PassesThrough};
 ghost use Rattle.poly61.specs.Vanishing.{vanishing_of};
+ghost use Rattle.poly61.specs.Blocks.{ArePowers, IsBlend, AddsProduct};
 
+use crate::blocks::{add_product_all, blend_all, fill_powers, value_in_blocks};
 use crate::coefficients::{
     clear_all, copy_all, divide_all, places_of, take_off_all, times_linear_all, value_of,
 };
-use field61::{Fe, known};
+use field61::{Fe, know_elements};
 use star_io::NoMemory;
 use std::alloc::Global;
 use std::marker::Model;
+
+// Up to so many places the value is taken by Horner's rule, and in blocks above.
+const FEW_PLACES: usize = 64;
 
 /// A polynomial, seen as the list of its coefficients from the lowest. The list is as long as the
 /// room, so zeros at its end don't count. Only [`Poly::with_room`] takes memory.
@@ -47,10 +52,17 @@ impl Poly {
 
     /// How many coefficients have room.
     pub fn room(&self) -> usize
-        ensures room { result ≡ length self.now }
-        ensures elements { AreElements self.now }
+        ensures { result ≡ length self.now }
     {
         self.coefficients.len()
+    }
+
+    /// Makes it known in proofs that each coefficient is below the modulus, as `know_elements` does of
+    /// a slice.
+    pub fn know(&self)
+        ensures { AreElements self.now }
+    {
+        let _ = &self.coefficients;
     }
 
     /// The coefficient of x^i: 0 past the room.
@@ -69,7 +81,7 @@ impl Poly {
         requires { i < length self.old }
         ensures { self.new ≡ slice_set self.old i c }
     {
-        let _below = c.value();
+        c.know_element();
         self.coefficients[i] = c;
         self.places = self.places.max(i + 1);
     }
@@ -103,7 +115,92 @@ impl Poly {
         ensures value { result ≡ value self.now x }
         ensures below { result < MODULUS }
     {
-        value_of(&self.coefficients[..self.places], x)
+        if self.places <= FEW_PLACES {
+            return value_of(&self.coefficients[..self.places], x);
+        }
+        let mut powers = [Fe::ONE; 32];
+        let top = fill_powers(&mut powers, x);
+        value_in_blocks(&self.coefficients, self.places, &powers, top, x)
+    }
+
+    /// The value at x, by the powers of x up to x^31.
+    pub fn value_by(&self, powers: &[Fe], top: Fe, x: Fe) -> Fe
+        requires many { length powers.now ≡ 32 }
+        requires powers { ArePowers powers.now x }
+        requires top { top ≡ field_power x 32 }
+        ensures value { result ≡ value self.now x }
+        ensures below { result < MODULUS }
+    {
+        value_in_blocks(&self.coefficients, self.places, powers, top, x)
+    }
+
+    /// Makes it c · itself + d · other, where there is room.
+    pub fn blend(&mut self, c: Fe, d: Fe, other: &Poly) -> bool
+        ensures room { length self.new ≡ length self.old }
+        ensures blend { IsTrue result → IsBlend self.old self.new c d other.now }
+    {
+        let room = self.coefficients.len();
+        if other.places > room || self.places > other.coefficients.len() {
+            return false;
+        }
+        self.places = blend_all(
+            &mut self.coefficients,
+            self.places,
+            c,
+            d,
+            &other.coefficients,
+            other.places,
+        );
+        true
+    }
+
+    /// Adds the product of f and g, where there is room. `work` needs room for g.
+    pub fn add_product(&mut self, f: &Poly, g: &Poly, work: &mut [Fe]) -> bool
+        ensures room { length self.new ≡ length self.old }
+        ensures product { IsTrue result → AddsProduct self.old self.new f.now g.now }
+    {
+        if f.places == 0 || g.places == 0 {
+            return true;
+        }
+        let reach = f.places + g.places - 1;
+        if self.coefficients.len() < reach || work.len() < g.places {
+            return false;
+        }
+        self.places = add_product_all(
+            &mut self.coefficients,
+            self.places,
+            &f.coefficients,
+            f.places,
+            &g.coefficients,
+            g.places,
+            work,
+        );
+        true
+    }
+
+    /// Multiplies by (x - a), where there is room.
+    pub fn times_linear_if_room(&mut self, a: Fe) -> bool
+        ensures room { length self.new ≡ length self.old }
+        ensures product { IsTrue result → IsLinearMultiple self.new self.old a 0 }
+    {
+        if self.places >= self.coefficients.len() {
+            return false;
+        }
+        self.times_linear(a);
+        true
+    }
+
+    /// Makes it the polynomial 1, where there is room.
+    pub fn become_one(&mut self) -> bool
+        ensures room { length self.new ≡ length self.old }
+        ensures one { IsTrue result → slice_index self.new 0 ≡ 1 }
+        ensures below { IsTrue result → HasDegreeBelow self.new 1 }
+    {
+        if self.coefficients.is_empty() {
+            return false;
+        }
+        self.set_one();
+        true
     }
 
     /// Multiplies by (x - a).
@@ -156,7 +253,7 @@ impl Poly {
     {
         self.set_one();
         for i in (0..xs.len()).rev() {
-            let _room = self.room();
+            self.know();
             self.times_linear(xs[i]);
         }
     }
@@ -173,14 +270,15 @@ impl Poly {
         ensures values { PassesThrough self.new xs.now ys.now }
         ensures below { HasDegreeBelow self.new (length xs.now) }
     {
-        known(xs);
-        known(ys);
+        know_elements(xs);
+        know_elements(ys);
         self.clear();
         work.set_one();
         for i in 0..xs.len() {
             self.pass_through(work, xs[i], ys[i]);
         }
     }
+
     /// Brings it through one more point, and `work` to vanish there too. Where `work` vanishes
     /// already, the values stay: this is the step of [`Poly::interpolate`].
     pub fn pass_through(&mut self, work: &mut Poly, x: Fe, y: Fe)
@@ -189,13 +287,14 @@ impl Poly {
         requires work_room { HasDegreeBelow work.old (length work.old - 1) }
         ensures room { length self.new ≡ length self.old }
         ensures work_room { length work.new ≡ length work.old }
+        ensures step { (c : ℕ) × TakesOff self.old self.new c 0 work.old }
         ensures passes { value self.new x ≡ y }
         ensures keeps { (z : ℕ) → value work.old z ≡ 0 → value self.new z ≡ value self.old z }
         ensures work { IsLinearMultiple work.new work.old x 0 }
         ensures below { (n : ℕ) → HasDegreeBelow work.old n → HasDegreeBelow self.old n → HasDegreeBelow self.new n }
     {
-        let _room = self.room();
-        let _below = y.value();
+        self.know();
+        y.know_element();
         if let Some(inverse) = work.value_at(x).inverse() {
             let c = self.value_at(x).sub(y).mul(inverse);
             self.take_off(c, 0, work);

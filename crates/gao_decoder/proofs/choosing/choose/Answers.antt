@@ -28,5 +28,5 @@ returns-clause-only c f elements below passes =
     let end : c.loop-i.i ≡ length c.args.xs.now = omega arith in
     let chosen : IsChosen c.args.xs.now c.args.ys.now c.args.w.now c.loop-i.candidate c.loop-i.work (length c.args.xs.now) c.loop-i.chosen c.args.k =
     subst (λ i. IsChosen c.args.xs.now c.args.ys.now c.args.w.now c.loop-i.candidate c.loop-i.work i c.loop-i.chosen c.args.k) end inv.chosen in
-    chosen_only c.args.xs.now c.args.ys.now c.args.w.now c.loop-i.candidate c.loop-i.work f c.loop-i.chosen c.args.k c.requires.distinct c.known.ensures c.requires.many inv.within
-    (λ i past. inv.below i (omega (arith, inv.within))) c.room-elements.ensures.elements chosen elements below passes
+    chosen_only c.args.xs.now c.args.ys.now c.args.w.now c.loop-i.candidate c.loop-i.work f c.loop-i.chosen c.args.k c.requires.distinct c.know_elements.ensures c.requires.many inv.within
+    (λ i past. inv.below i (omega (arith, inv.within))) c.know.ensures chosen elements below passes

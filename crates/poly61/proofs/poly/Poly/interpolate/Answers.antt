@@ -31,7 +31,7 @@ loop-i-preserved c =
     let a = c.index-xs-i.result in
     let x : a ≡ get_or xs c.loop-i.i 0 = grind (arith, common_steps) in
     let y : c.index-ys-i.result ≡ get_or ys c.loop-i.i 0 = grind (arith, common_steps) in
-    let small : (k : ℕ) → get_or xs k 0 < MODULUS = AreElements-bounded xs c.known.ensures in
+    let small : (k : ℕ) → get_or xs k 0 < MODULUS = AreElements-bounded xs c.know_elements.ensures in
     record {
       room = step.room ∙ inv.room;
       work_room = step.work_room ∙ inv.work_room;
