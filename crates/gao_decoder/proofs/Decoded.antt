@@ -1,7 +1,8 @@
 -- What the stopped sequence tells of the polynomial that is looked for.
-use Rattle.std.proofs.Common.{ℕ, zero, suc, ◌+◌, ◌*◌, ◌/◌, ◌<◌, ◌≤◌, ◌≡◌, ◌∙◌, sym, ap, refl, arith, eqb, inl, inr, List, [], ◌∷◌, length, get_or}
+use Rattle.std.proofs.Common.{ℕ, zero, suc, ◌+◌, ◌*◌, ◌/◌, ◌<◌, ◌≤◌, ◌≡◌, ◌∙◌, sym, ap, refl, arith, Bool, true, eqb, inl, inr, List, [], ◌∷◌, length, get_or, take, subst}
 use Rattle.std.proofs.lemmas.Bool.{cases_lt, eqb-true, eq-eqb}
-use Rattle.std.proofs.Math.ListN.{set}
+use Rattle.std.proofs.Math.ListN.{set, length-take}
+use Rattle.std.proofs.Common.{get_or-take}
 use Rattle.field61.specs.Field.{field_product, AreElements}
 use Rattle.field61.proofs.FieldLaws.{zero_product, one_product}
 use Rattle.poly61.specs.Poly.{value, IsZero, HasDegreeBelow, SameCoefficients, PassesThrough, AreDistinct}
@@ -13,8 +14,9 @@ use Rattle.poly61.proofs.Counts.{count_to-grows, count_to-not}
 use Rattle.poly61.proofs.Roots.{root_count, few_roots}
 use Rattle.poly61.proofs.Lists.{coefficient_of, AreElements-bounded, value-places, value-same}
 use Rattle.poly61.proofs.Values.{value-one, value-zero}
+use Rattle.poly61.proofs.PolynomialLaws.{same_below}
 use Rattle.poly61.proofs.Products.{vanishing_of-root, vanishing_of-top, vanishing_of-below}
-use Rattle.gao_decoder.specs.Decoding.{agreement, IsDecoded}
+use Rattle.gao_decoder.specs.Decoding.{agreement, IsDecoded, IsDecodedShort}
 use Rattle.gao_decoder.specs.Sequence.{AreNeighbours, IsStopped}
 use Rattle.gao_decoder.specs.Choosing.{nonzero_count}
 use Rattle.gao_decoder.proofs.Counting.{agreement-count_to, agreement_same, nonzero_count-count_to}
@@ -80,6 +82,21 @@ decoded_is xs ys s w g f k e distinct pairs xs_elements ys_elements s_elements w
 pub decoded_enough : (xs ys g f : List ℕ) (k : ℕ) → HasDegreeBelow g k → ((i : ℕ) → get_or g i 0 ≡ get_or f i 0) → IsDecoded f xs ys k → length xs + k ≤ 2 * agreement g xs ys
 decoded_enough xs ys g f k g_below e d = omega (arith, d.agrees, agreement_same g f xs ys (λ x. value-same g f x e))
 
+-- so it is decoded too
+pub decoded_again : (xs ys g f : List ℕ) (k : ℕ) → AreElements g → HasDegreeBelow g k → ((i : ℕ) → get_or g i 0 ≡ get_or f i 0) → IsDecoded f xs ys k → IsDecoded g xs ys k
+decoded_again xs ys g f k g_elements g_below e d = record { elements = g_elements; below = g_below; agrees = decoded_enough xs ys g f k g_below e d }
+
+-- a copy of what is decoded is decoded
+pub decoded_copy : (xs ys g f : List ℕ) (k : ℕ) → AreElements g → ((i : ℕ) → get_or g i 0 ≡ get_or f i 0) → IsDecoded f xs ys k → IsDecoded g xs ys k
+decoded_copy xs ys g f k g_elements e d = decoded_again xs ys g f k g_elements (λ i past. e i ∙ d.below i past) e d
+
+-- what passes through k distinct points and is decoded is the only polynomial of degree below k through them
+pub decoded_through : (some_xs some_ys xs ys g f : List ℕ) → AreElements some_xs → AreDistinct some_xs → AreElements g → HasDegreeBelow g (length some_xs) → PassesThrough g some_xs some_ys
+    → IsDecoded f xs ys (length some_xs) → PassesThrough f some_xs some_ys → IsDecoded g xs ys (length some_xs)
+decoded_through some_xs some_ys xs ys g f elements distinct g_elements g_below g_passes d f_passes =
+    decoded_again xs ys g f (length some_xs) g_elements g_below
+    (same_below g f (length some_xs) (coefficient_of some_xs) g_elements d.elements distinct (AreElements-bounded some_xs elements) g_below d.below (λ i within. g_passes i within ∙ sym (f_passes i within))) d
+
 -- at most one polynomial is decoded
 pub one_decoded : (f g xs ys : List ℕ) (k : ℕ) → AreElements xs → AreDistinct xs → length xs ≡ length ys → k ≤ length xs → IsDecoded f xs ys k → IsDecoded g xs ys k → SameCoefficients f g
 one_decoded f g xs ys k xs_elements distinct pairs threshold f_decoded g_decoded i = elim (cases_lt i k) [
@@ -90,3 +107,27 @@ one_decoded f g xs ys k xs_elements distinct pairs threshold f_decoded g_decoded
     many : (h : List ℕ) → IsDecoded h xs ys k → length xs + k ≤ 2 * count_to (length xs) (λ j. eqb (value_to k (coefficient_of h) (coefficient_of xs j)) (coefficient_of ys j))
     many h d = let m : count_to (length xs) (λ j. eqb (value h (coefficient_of xs j)) (coefficient_of ys j)) ≤ count_to (length xs) (λ j. eqb (value_to k (coefficient_of h) (coefficient_of xs j)) (coefficient_of ys j)) = count_to-grows (length xs) _ _ (λ j _ t. eq-eqb _ _ (sym (value-places k h (coefficient_of xs j) d.below) ∙ eqb-true _ _ t)) in
         omega (arith, m, agreement-count_to h xs ys pairs, d.agrees)
+
+-- the first k points as lists of their own
+length-first : (xs : List ℕ) (k : ℕ) → k ≤ length xs → length (take k xs) ≡ k
+length-first xs k within = omega (arith, length-take k xs)
+
+pub short_of_first : (f xs ys : List ℕ) (k : ℕ) → k ≤ length xs → IsDecoded f xs ys (length (take k xs)) → PassesThrough f (take k xs) (take k ys) → IsDecodedShort f xs ys k
+short_of_first f xs ys k within d passes = record {
+  decoded = subst (λ n. IsDecoded f xs ys n) (length-first xs k within) d;
+  passes = λ i less. ap (value f) (sym (get_or-take k xs i 0 less)) ∙ passes i (omega (arith, length-first xs k within)) ∙ get_or-take k ys i 0 less;
+}
+
+first_of_short : (f xs ys : List ℕ) (k : ℕ) → k ≤ length xs → IsDecodedShort f xs ys k → IsDecoded f xs ys (length (take k xs)) × PassesThrough f (take k xs) (take k ys)
+first_of_short f xs ys k within short = (
+  subst (λ n. IsDecoded f xs ys n) (sym (length-first xs k within)) short.decoded,
+  λ i less. let below : i < k = omega (arith, length-first xs k within) in ap (value f) (get_or-take k xs i 0 below) ∙ short.passes i below ∙ sym (get_or-take k ys i 0 below),
+)
+
+-- what is decoded of the first points is found, and it is the only one
+pub short_is_found : (f xs ys : List ℕ) (k : ℕ) (b : Bool) → k ≤ length xs → ((g : List ℕ) → IsDecoded g xs ys (length (take k xs)) → PassesThrough g (take k xs) (take k ys) → b ≡ true)
+    → IsDecodedShort f xs ys k → b ≡ true
+short_is_found f xs ys k b within complete short = let first = first_of_short f xs ys k within short in complete f first.0 first.1
+
+pub short_only : (out f xs ys : List ℕ) (k : ℕ) → AreElements xs → AreDistinct xs → length xs ≡ length ys → k ≤ length xs → IsDecodedShort out xs ys k → IsDecodedShort f xs ys k → SameCoefficients out f
+short_only out f xs ys k elements distinct pairs threshold found short = one_decoded out f xs ys k elements distinct pairs threshold found.decoded short.decoded

@@ -3,6 +3,7 @@
 use Rattle.std.specs.Prelude.{ℕ, ◌+◌, ◌*◌, ◌≤◌, ◌<◌, ◌≡◌, List, length, slice_index}
 use Rattle.field61.specs.Field.{field_product}
 use Rattle.poly61.specs.Poly.{value, HasDegree, HasDegreeBelow}
+use Rattle.gao_decoder.specs.declared.sequence.Remainders.{Remainders}
 
 -- at each point the remainder is the cofactor times y
 abbrev pub IsTied : List ℕ → List ℕ → List ℕ → List ℕ → Type 0
@@ -28,3 +29,10 @@ pub record IsStopped (xs ys s w : List ℕ) (k e : ℕ) : Type 0 where
   pub low : IsLow s (length xs + k)
   pub cofactor : HasDegree w e
   pub few : 2 * e + k ≤ length xs
+
+-- each of the four polynomials has this room
+pub record HaveRoom (r : Remainders) (room : ℕ) : Type 0 where
+  pub upper : length r.upper ≡ room
+  pub upper_cofactor : length r.upper_cofactor ≡ room
+  pub lower : length r.lower ≡ room
+  pub lower_cofactor : length r.lower_cofactor ≡ room

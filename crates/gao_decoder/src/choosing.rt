@@ -1,8 +1,9 @@
-// The polynomial through points at which another one is not 0.
-ghost use Rattle.std.specs.Prelude.{◌≡◌, ◌≢◌, ℕ, ◌<◌, ◌≤◌, ◌+◌, List, length, slice_index};
+// The polynomial through points at which another one is not 0, and the count that decides.
+ghost use Rattle.std.specs.Prelude.{◌≡◌, ◌≢◌, ◌↔◌, ℕ, ◌<◌, ◌≤◌, ◌+◌, ◌*◌, ◌^◌, List, length, slice_index, IsTrue, false};
 ghost use Rattle.field61.specs.Field.{AreElements};
-ghost use Rattle.poly61.specs.Poly.{value, HasDegreeBelow, SameCoefficients, AreDistinct};
-ghost use Rattle.gao_decoder.specs.Decoding.{agreement};
+ghost use Rattle.poly61.specs.Poly.{value, IsZero, HasDegreeBelow, SameCoefficients, AreDistinct};
+ghost use Rattle.gao_decoder.specs.Decoding.{agreement, IsDecoded};
+ghost use Rattle.gao_decoder.specs.Sequence.{IsStopped};
 ghost use Rattle.gao_decoder.specs.Choosing.{nonzero_count, IsChosen};
 
 use field61::{Fe, know_elements};
@@ -80,8 +81,8 @@ pub(crate) fn choose(
     candidate.know();
 }
 
-/// At how many points the polynomial has the value y.
-pub(crate) fn agreement_of(f: &Poly, xs: &[Fe], ys: &[Fe]) -> usize
+// At how many points the polynomial has the value y.
+fn agreement_of(f: &Poly, xs: &[Fe], ys: &[Fe]) -> usize
     requires { length xs.now ≡ length ys.now }
     ensures { result ≡ agreement f.now xs.now ys.now }
 {
@@ -92,4 +93,85 @@ pub(crate) fn agreement_of(f: &Poly, xs: &[Fe], ys: &[Fe]) -> usize
         }
     }
     count
+}
+
+// Whether 2 * count is at least n + k.
+fn is_enough(count: usize, n: usize, k: usize) -> bool
+    requires { n + k < 2 ^ 63 }
+    ensures { IsTrue result ↔ n + k ≤ 2 * count }
+{
+    if n + k <= count {
+        return true;
+    }
+    n + k - count <= count
+}
+
+/// Whether the polynomial of degree below k is decoded: it agrees with enough of all points.
+pub(crate) fn is_decoded(f: &Poly, xs: &[Fe], ys: &[Fe], k: usize) -> bool
+    requires pairs { length xs.now ≡ length ys.now }
+    requires threshold { k ≤ length xs.now }
+    requires below { HasDegreeBelow f.now k }
+    ensures { IsTrue result ↔ IsDecoded f.now xs.now ys.now k }
+{
+    f.know();
+    is_enough(agreement_of(f, xs, ys), xs.len(), k)
+}
+
+/// Makes out the candidate where it is decoded, and else the zero polynomial.
+pub(crate) fn accept(candidate: &Poly, xs: &[Fe], ys: &[Fe], k: usize, out: &mut Poly) -> bool
+    requires pairs { length xs.now ≡ length ys.now }
+    requires threshold { k ≤ length xs.now }
+    requires below { HasDegreeBelow candidate.now k }
+    requires room { k ≤ length out.old }
+    ensures room { length out.new ≡ length out.old }
+    ensures decoded { IsTrue result ↔ IsDecoded candidate.now xs.now ys.now k }
+    ensures same { IsTrue result → SameCoefficients out.new candidate.now }
+    ensures found { IsTrue result → IsDecoded out.new xs.now ys.now k }
+    ensures none { result ≡ false → IsZero out.new }
+{
+    if !is_decoded(candidate, xs, ys, k) {
+        out.clear();
+        return false;
+    }
+    out.copy_from(candidate);
+    out.know();
+    true
+}
+
+/// Decodes by the polynomial through the first k points at which the cofactor is not 0, where the
+/// sequence stopped.
+pub(crate) fn close(
+    candidate: &mut Poly,
+    work: &mut Poly,
+    remainder: &Poly,
+    cofactor: &Poly,
+    degree: usize,
+    xs: &[Fe],
+    ys: &[Fe],
+    k: usize,
+    out: &mut Poly,
+) -> bool
+    requires distinct { AreDistinct xs.now }
+    requires pairs { length xs.now ≡ length ys.now }
+    requires some { 1 ≤ k }
+    requires threshold { k ≤ length xs.now }
+    requires stopped { IsStopped xs.now ys.now remainder.now cofactor.now k degree }
+    requires candidate_room { length xs.now < length candidate.old }
+    requires work_room { length xs.now < length work.old }
+    requires room { k ≤ length out.old }
+    ensures candidate_room { length candidate.new ≡ length candidate.old }
+    ensures work_room { length work.new ≡ length work.old }
+    ensures room { length out.new ≡ length out.old }
+    ensures found { IsTrue result → IsDecoded out.new xs.now ys.now k }
+    ensures complete { (f : List ℕ) → IsDecoded f xs.now ys.now k → IsTrue result }
+    ensures only { (f : List ℕ) → IsDecoded f xs.now ys.now k → SameCoefficients out.new f }
+    ensures none { result ≡ false → IsZero out.new }
+{
+    know_elements(xs);
+    know_elements(ys);
+    remainder.know();
+    cofactor.know();
+    choose(candidate, work, cofactor, xs, ys, k);
+    candidate.know();
+    accept(candidate, xs, ys, k, out)
 }

@@ -4,7 +4,7 @@ ghost use Rattle.field61.specs.Field.{field_sum, field_product, field_difference
 ghost use Rattle.field61.specs.declared.TheConstants.{MODULUS};
 ghost use Rattle.poly61.specs.Blocks.{ArePowers};
 ghost use Rattle.poly61.specs.Poly.{value, IsZero, HasDegree};
-ghost use Rattle.gao_decoder.specs.Sequence.{IsTied, IsLow};
+ghost use Rattle.gao_decoder.specs.Sequence.{IsTied, IsLow, IsStopped};
 ghost use Rattle.gao_decoder.specs.Halving.{row_at, TakesTo, IsPivoted, IsSumOfProducts};
 
 use crate::sequence::goes_on;
@@ -13,6 +13,9 @@ use poly61::{Poly, fill_powers};
 use star_io::NoMemory;
 use std::alloc::Global;
 use std::mem;
+
+// A run of so many points is gone through one point after the other.
+const LEAF_POINTS: usize = 32;
 
 /// A row takes a pair (a, b) to v · a + r · b.
 #[derive(Drop)]
@@ -28,9 +31,19 @@ pub(crate) struct Rows {
 }
 
 #[derive(Drop)]
-pub(crate) struct Level {
+struct Level {
     first: Rows,
     second: Rows,
+}
+
+/// Room for halving: the rows that it finds, those of each level, and the pair of each point.
+#[derive(Drop)]
+pub(crate) struct Halves {
+    pub(crate) rows: Rows,
+    levels: Vec<Level>,
+    firsts: Vec<Fe>,
+    seconds: Vec<Fe>,
+    work: Vec<Fe>,
 }
 
 // Twice the orders of the two rows. The lower one is the pivot.
@@ -49,7 +62,7 @@ impl Row {
 }
 
 impl Rows {
-    pub(crate) fn with_room(alloc: Global, room: usize) -> Result<Rows, NoMemory> {
+    fn with_room(alloc: Global, room: usize) -> Result<Rows, NoMemory> {
         let a = Row::with_room(alloc, room)?;
         let b = Row::with_room(alloc, room)?;
         Ok(Rows { a, b })
@@ -57,7 +70,7 @@ impl Rows {
 }
 
 impl Level {
-    pub(crate) fn with_room(alloc: Global, room: usize) -> Result<Level, NoMemory> {
+    fn with_room(alloc: Global, room: usize) -> Result<Level, NoMemory> {
         let first = Rows::with_room(alloc, room)?;
         let second = Rows::with_room(alloc, room)?;
         Ok(Level { first, second })
@@ -267,7 +280,7 @@ fn row_product(out: &mut Row, row: &Row, rows: &Rows, work: &mut [Fe]) -> bool
     sum_products(&mut out.r, &row.v, &rows.a.r, &row.r, &rows.b.r, work)
 }
 
-/// Finds rows that take the pair of each point of the run to (0, 0).
+// Finds rows that take the pair of each point of the run to (0, 0).
 fn halve(
     xs: &[Fe],
     firsts: &mut [Fe],
@@ -289,7 +302,7 @@ fn halve(
     ensures firsts_rest { (i : ℕ) → to ≤ i → slice_index firsts.new i ≡ slice_index firsts.old i }
     ensures seconds_rest { (i : ℕ) → to ≤ i → slice_index seconds.new i ≡ slice_index seconds.old i }
 {
-    if to - from <= 32 {
+    if to - from <= LEAF_POINTS {
         return leaf(xs, firsts, seconds, from, to, orders, rows);
     }
     let middle = to - (to - from) / 2;
@@ -334,8 +347,8 @@ fn halve(
     row_product(&mut rows.b, &level.second.b, &level.first, work)
 }
 
-/// Makes row a one that takes each (y, -1) to 0: the one of lower order.
-pub(crate) fn find_row(
+// Makes row a one that takes each (y, -1) to 0: the one of lower order.
+fn find_row(
     xs: &[Fe],
     ys: &[Fe],
     k: usize,
@@ -386,8 +399,8 @@ pub(crate) fn find_row(
     true
 }
 
-/// The degree of v where the row's degrees are low enough.
-pub(crate) fn stops_at(row: &Row, n: usize, k: usize) -> Option<usize>
+// The degree of v where the row's degrees are low enough.
+fn stops_at(row: &Row, n: usize, k: usize) -> Option<usize>
     requires threshold { k ≤ n }
     requires size { n + k < 2 ^ 63 }
     ensures degree { IfSome result (HasDegree row.now.v) }
@@ -406,5 +419,58 @@ pub(crate) fn stops_at(row: &Row, n: usize, k: usize) -> Option<usize>
             }
         }
         None => None,
+    }
+}
+
+// Room for each halving of n points.
+fn levels_for(alloc: Global, n: usize) -> Result<Vec<Level>, NoMemory> {
+    let mut levels = Vec::new(alloc);
+    let mut points = n;
+    while points > LEAF_POINTS {
+        points -= points / 2;
+        levels.push(Level::with_room(alloc, points + 1)?)?;
+    }
+    levels.push(Level::with_room(alloc, 0)?)?;
+    Ok(levels)
+}
+
+impl Halves {
+    /// Room for n points.
+    pub(crate) fn for_points(alloc: Global, n: usize) -> Result<Halves, NoMemory> {
+        let room = n.checked_add(1).ok_or(NoMemory)?;
+        let rows = Rows::with_room(alloc, room)?;
+        let levels = levels_for(alloc, n)?;
+        let firsts = vec![in alloc; Fe::ZERO; n]?;
+        let seconds = vec![in alloc; Fe::ZERO; n]?;
+        let work = vec![in alloc; Fe::ZERO; room]?;
+        Ok(Halves {
+            rows,
+            levels,
+            firsts,
+            seconds,
+            work,
+        })
+    }
+
+    /// Makes row a one that takes each (y, -1) to 0, and answers the degree of its v where its
+    /// degrees are low enough.
+    pub(crate) fn run(&mut self, xs: &[Fe], ys: &[Fe], k: usize) -> Option<usize>
+        requires pairs { length xs.now ≡ length ys.now }
+        requires threshold { k ≤ length xs.now }
+        ensures { IfSome result (λ e. IsStopped xs.now ys.now self.new.rows.a.r self.new.rows.a.v k e) }
+    {
+        if !find_row(
+            xs,
+            ys,
+            k,
+            &mut self.firsts,
+            &mut self.seconds,
+            &mut self.rows,
+            &mut self.levels,
+            &mut self.work,
+        ) {
+            return None;
+        }
+        stops_at(&self.rows.a, xs.len(), k)
     }
 }

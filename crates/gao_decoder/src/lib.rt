@@ -9,11 +9,14 @@ pub mod laws;
 mod sampling;
 mod scratch;
 mod sequence;
+mod whole;
 
-pub use decoder::decode;
+pub use decoder::{decode, decode_short, decode_through};
 pub use scratch::Scratch;
 
 #[cfg(test)]
-mod table;
-#[cfg(test)]
 mod tests;
+#[cfg(test)]
+mod tests_compare;
+#[cfg(test)]
+mod tests_table;

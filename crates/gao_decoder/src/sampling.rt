@@ -1,11 +1,25 @@
 // Samples of the points.
 ghost use Rattle.std.specs.Prelude.{◌≡◌, ℕ, ◌<◌, ◌≤◌, ◌+◌, length, slice_index, IsTrue};
 ghost use Rattle.poly61.specs.Poly.{AreDistinct};
+ghost use Rattle.gao_decoder.specs.Decoding.{IsDecoded};
+ghost use Rattle.gao_decoder.specs.Sequence.{HaveRoom};
 
+use crate::choosing::is_decoded;
+use crate::halving::Halves;
+use crate::scratch::Scratch;
+use crate::sequence::Remainders;
+use crate::whole::decode_by_halving;
 use field61::Fe;
+use poly61::Poly;
 
-/// Fills the sample with points at even strides over all of them.
-pub(crate) fn take_sample(sample_xs: &mut [Fe], sample_ys: &mut [Fe], xs: &[Fe], ys: &[Fe]) -> bool
+// Fewer points are decoded whole in no more time.
+const MANY_POINTS: usize = 200;
+
+// How many points more than k the first sample has. Each next one has four times as many more.
+const FIRST_MORE: usize = 16;
+
+// Fills the sample with points at even strides over all of them.
+fn take_sample(sample_xs: &mut [Fe], sample_ys: &mut [Fe], xs: &[Fe], ys: &[Fe]) -> bool
     requires distinct { AreDistinct xs.now }
     requires pairs { length xs.now ≡ length ys.now }
     requires sample { length sample_xs.old ≡ length sample_ys.old }
@@ -33,4 +47,106 @@ pub(crate) fn take_sample(sample_xs: &mut [Fe], sample_ys: &mut [Fe], xs: &[Fe],
         }
     }
     true
+}
+
+/// Decodes samples of growing sizes, at even strides over all points.
+pub(crate) fn decode_sampled(
+    scratch: &mut Scratch,
+    xs: &[Fe],
+    ys: &[Fe],
+    k: usize,
+    out: &mut Poly,
+) -> bool
+    requires distinct { AreDistinct xs.now }
+    requires pairs { length xs.now ≡ length ys.now }
+    requires some { 1 ≤ k }
+    requires threshold { k ≤ length xs.now }
+    requires scratch { length xs.now ≤ scratch.old }
+    requires room { k ≤ length out.old }
+    ensures scratch { scratch.new ≡ scratch.old }
+    ensures room { length out.new ≡ length out.old }
+    ensures found { IsTrue result → IsDecoded out.new xs.now ys.now k }
+{
+    if xs.len() < MANY_POINTS {
+        return false;
+    }
+    let mut more = FIRST_MORE;
+    for _ in 0..32 {
+        let size = k.saturating_add(more);
+        if size > xs.len() / 2 {
+            return false;
+        }
+        if decode_sample(scratch, xs, ys, k, size, out) {
+            return true;
+        }
+        more = more.saturating_mul(4);
+    }
+    false
+}
+
+// Decodes a sample, and counts its polynomial over all points.
+fn decode_sample(
+    scratch: &mut Scratch,
+    xs: &[Fe],
+    ys: &[Fe],
+    k: usize,
+    size: usize,
+    out: &mut Poly,
+) -> bool
+    requires distinct { AreDistinct xs.now }
+    requires pairs { length xs.now ≡ length ys.now }
+    requires some { 1 ≤ k }
+    requires threshold { k ≤ size }
+    requires within { size ≤ length xs.now }
+    requires scratch { length xs.now ≤ scratch.old }
+    requires room { k ≤ length out.old }
+    ensures scratch { scratch.new ≡ scratch.old }
+    ensures room { length out.new ≡ length out.old }
+    ensures found { IsTrue result → IsDecoded out.new xs.now ys.now k }
+{
+    if scratch.sample_xs.len() < size || scratch.sample_ys.len() < size {
+        return false;
+    }
+    decode_sample_in(
+        &mut scratch.sample_xs[..size],
+        &mut scratch.sample_ys[..size],
+        &mut scratch.remainders,
+        &mut scratch.halves,
+        xs,
+        ys,
+        k,
+        out,
+    )
+}
+
+fn decode_sample_in(
+    sample_xs: &mut [Fe],
+    sample_ys: &mut [Fe],
+    remainders: &mut Remainders,
+    halves: &mut Halves,
+    xs: &[Fe],
+    ys: &[Fe],
+    k: usize,
+    out: &mut Poly,
+) -> bool
+    requires distinct { AreDistinct xs.now }
+    requires pairs { length xs.now ≡ length ys.now }
+    requires some { 1 ≤ k }
+    requires sample { length sample_ys.old ≡ length sample_xs.old }
+    requires sample_threshold { k ≤ length sample_xs.old }
+    requires threshold { k ≤ length xs.now }
+    requires rooms { HaveRoom remainders.old (length remainders.old.upper) }
+    requires sample_room { length sample_xs.old < length remainders.old.upper }
+    requires room { k ≤ length out.old }
+    ensures rooms { HaveRoom remainders.new (length remainders.old.upper) }
+    ensures room { length out.new ≡ length out.old }
+    ensures found { IsTrue result → IsDecoded out.new xs.now ys.now k }
+{
+    if !take_sample(sample_xs, sample_ys, xs, ys) {
+        return false;
+    }
+    if !decode_by_halving(remainders, halves, sample_xs, sample_ys, k, out) {
+        return false;
+    }
+    is_decoded(out, xs, ys, k)
 }

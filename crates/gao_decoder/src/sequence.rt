@@ -1,12 +1,23 @@
 // The remainder sequence, down to the first remainder whose degree is low enough.
-ghost use Rattle.std.specs.Prelude.{◌≡◌, ◌≢◌, ℕ, ◌<◌, ◌≤◌, ◌+◌, ◌-◌, ◌*◌, ◌^◌, length, slice_index, IfSome, IfNone};
+ghost use Rattle.std.specs.Prelude.{◌≡◌, ◌≢◌, ℕ, ◌<◌, ◌≤◌, ◌+◌, ◌-◌, ◌*◌, ◌^◌, length, slice_index, IfOk, IfSome, IfNone};
 ghost use Rattle.field61.specs.Field.{field_product};
-ghost use Rattle.poly61.specs.Poly.{HasDegree, HasDegreeBelow};
-ghost use Rattle.gao_decoder.specs.Sequence.{IsTied, AreNeighbours, IsLow, IsStopped};
+ghost use Rattle.poly61.specs.Poly.{HasDegree, HasDegreeBelow, AreDistinct};
+ghost use Rattle.gao_decoder.specs.Sequence.{IsTied, AreNeighbours, IsLow, IsStopped, HaveRoom};
 
-use field61::Fe;
+use field61::{Fe, know_elements};
 use poly61::Poly;
+use star_io::NoMemory;
+use std::alloc::Global;
 use std::mem;
+
+/// Two neighbours of the sequence, and their cofactors.
+#[derive(Drop)]
+pub(crate) struct Remainders {
+    pub(crate) upper: Poly,
+    pub(crate) upper_cofactor: Poly,
+    pub(crate) lower: Poly,
+    pub(crate) lower_cofactor: Poly,
+}
 
 // The degree of the remainder where the sequence goes on after it.
 pub(crate) fn goes_on(lower: &Poly, bound: usize) -> Option<usize>
@@ -71,48 +82,70 @@ fn reduce(
     }
 }
 
-/// Runs the sequence to the first lower remainder of degree below (n + k) / 2, and answers the
-/// degree of its cofactor.
-pub(crate) fn run_down(
-    upper: &mut Poly,
-    upper_cofactor: &mut Poly,
-    lower: &mut Poly,
-    lower_cofactor: &mut Poly,
-    xs: &[Fe],
-    ys: &[Fe],
-    k: usize,
-) -> usize
-    requires start { AreNeighbours xs.now ys.now upper.old upper_cofactor.old lower.old lower_cofactor.old (length xs.now) 0 }
-    requires threshold { k ≤ length xs.now }
-    requires room { length xs.now < length upper.old }
-    requires upper_cofactor_room { length upper_cofactor.old ≡ length upper.old }
-    requires lower_room { length lower.old ≡ length upper.old }
-    requires lower_cofactor_room { length lower_cofactor.old ≡ length upper.old }
-    ensures room { length upper.new ≡ length upper.old }
-    ensures upper_cofactor_room { length upper_cofactor.new ≡ length upper.old }
-    ensures lower_room { length lower.new ≡ length upper.old }
-    ensures lower_cofactor_room { length lower_cofactor.new ≡ length upper.old }
-    ensures stopped { IsStopped xs.now ys.now lower.new lower_cofactor.new k result }
-{
-    let bound = xs.len() + k;
-    let mut top = xs.len();
-    let mut cofactor_top = 0;
-    while let Some(low) = goes_on(lower, bound) {
-        reduce(
+impl Remainders {
+    pub(crate) fn with_room(alloc: Global, room: usize) -> Result<Remainders, NoMemory>
+        ensures { IfOk result (λ r. HaveRoom r room) }
+    {
+        let upper = Poly::with_room(alloc, room)?;
+        let upper_cofactor = Poly::with_room(alloc, room)?;
+        let lower = Poly::with_room(alloc, room)?;
+        let lower_cofactor = Poly::with_room(alloc, room)?;
+        Ok(Remainders {
             upper,
             upper_cofactor,
             lower,
             lower_cofactor,
-            xs,
-            ys,
-            top,
-            low,
-            cofactor_top,
-        );
-        mem::swap(upper, lower);
-        mem::swap(upper_cofactor, lower_cofactor);
-        cofactor_top += top - low;
-        top = low;
+        })
     }
-    cofactor_top
+
+    /// Makes them the first two: the product of the (x - a) over the points, and the polynomial
+    /// through them.
+    pub(crate) fn begin(&mut self, xs: &[Fe], ys: &[Fe])
+        requires distinct { AreDistinct xs.now }
+        requires pairs { length xs.now ≡ length ys.now }
+        requires rooms { HaveRoom self.old (length self.old.upper) }
+        requires room { length xs.now < length self.old.upper }
+        ensures rooms { HaveRoom self.new (length self.old.upper) }
+        ensures start { AreNeighbours xs.now ys.now self.new.upper self.new.upper_cofactor self.new.lower self.new.lower_cofactor (length xs.now) 0 }
+    {
+        know_elements(ys);
+        self.lower.interpolate(&mut self.upper, xs, ys);
+        self.upper.vanishing(xs);
+        self.upper_cofactor.clear();
+        self.lower_cofactor.clear();
+        self.lower_cofactor.set_coefficient(0, Fe::ONE);
+    }
+
+    /// Runs the sequence to the first lower remainder of degree below (n + k) / 2, and answers the
+    /// degree of its cofactor.
+    pub(crate) fn run_down(&mut self, xs: &[Fe], ys: &[Fe], k: usize) -> usize
+        requires start { AreNeighbours xs.now ys.now self.old.upper self.old.upper_cofactor self.old.lower self.old.lower_cofactor (length xs.now) 0 }
+        requires threshold { k ≤ length xs.now }
+        requires rooms { HaveRoom self.old (length self.old.upper) }
+        requires room { length xs.now < length self.old.upper }
+        ensures rooms { HaveRoom self.new (length self.old.upper) }
+        ensures stopped { IsStopped xs.now ys.now self.new.lower self.new.lower_cofactor k result }
+    {
+        let bound = xs.len() + k;
+        let mut top = xs.len();
+        let mut cofactor_top = 0;
+        while let Some(low) = goes_on(&self.lower, bound) {
+            reduce(
+                &mut self.upper,
+                &mut self.upper_cofactor,
+                &self.lower,
+                &self.lower_cofactor,
+                xs,
+                ys,
+                top,
+                low,
+                cofactor_top,
+            );
+            mem::swap(&mut self.upper, &mut self.lower);
+            mem::swap(&mut self.upper_cofactor, &mut self.lower_cofactor);
+            cofactor_top += top - low;
+            top = low;
+        }
+        cofactor_top
+    }
 }

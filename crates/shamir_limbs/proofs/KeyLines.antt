@@ -4,9 +4,9 @@ use Rattle.std.proofs.lemmas.Bool.{false≢true}
 use Rattle.std.proofs.lemmas.List.{length-map}
 use Rattle.field61.specs.Field.{AreElements}
 use Rattle.poly61.specs.Poly.{AreDistinct}
-use Rattle.gao_decoder.specs.Decoding.{IsDecoded}
+use Rattle.gao_decoder.specs.Decoding.{IsDecoded, IsDecodedShort}
 use Rattle.gao_decoder.proofs.Decoded.{one_decoded}
-use Rattle.shamir_limbs.specs.KeyLine.{xs_of, ys_of, agreement_of_all, values_at_zero, IsKeyLine, IsRecoveredFrom, AreSame}
+use Rattle.shamir_limbs.specs.KeyLine.{xs_of, ys_of, agreement_of_all, values_at_zero, IsKeyLine, IsShortKeyLine, IsRecoveredFrom, AreSame}
 use Rattle.shamir_limbs.specs.Limbs.{AreLimbs}
 use Rattle.shamir_limbs.specs.declared.recovery.Recovered.{Recovered}
 use Rattle.shamir_limbs.specs.declared.share.Point.{Point}
@@ -39,6 +39,15 @@ third_decoded q0 q1 q2 points k line = record {
   agrees = omega (arith, line.agrees, length-xs_of points, agreement_of_all-third q0 q1 q2 points);
 }
 
+pub first_decoded_short : (q0 q1 q2 : List ℕ) (points : List Point) (k : ℕ) → IsShortKeyLine q0 q1 q2 points k → IsDecodedShort q0 (xs_of points) (ys_of points 0) k
+first_decoded_short q0 q1 q2 points k short = record { decoded = first_decoded q0 q1 q2 points k short.line; passes = short.first }
+
+pub second_decoded_short : (q0 q1 q2 : List ℕ) (points : List Point) (k : ℕ) → IsShortKeyLine q0 q1 q2 points k → IsDecodedShort q1 (xs_of points) (ys_of points 1) k
+second_decoded_short q0 q1 q2 points k short = record { decoded = second_decoded q0 q1 q2 points k short.line; passes = short.second }
+
+pub third_decoded_short : (q0 q1 q2 : List ℕ) (points : List Point) (k : ℕ) → IsShortKeyLine q0 q1 q2 points k → IsDecodedShort q2 (xs_of points) (ys_of points 2) k
+third_decoded_short q0 q1 q2 points k short = record { decoded = third_decoded q0 q1 q2 points k short.line; passes = short.third }
+
 pub one_key_line : (q0 q1 q2 r0 r1 r2 : List ℕ) (points : List Point) (k : ℕ) → AreElements (xs_of points) → AreDistinct (xs_of points) → k ≤ length points
     → IsKeyLine q0 q1 q2 points k → IsKeyLine r0 r1 r2 points k → AreSame q0 q1 q2 r0 r1 r2
 one_key_line q0 q1 q2 r0 r1 r2 points k elements distinct threshold q r =
@@ -61,6 +70,16 @@ recovered_from_line f0 f1 f2 q0 q1 q2 points k (Some r) same found from line = r
 }
 
 -- three decoded polynomials that give something are a key line
+line_of_decoded : (f0 f1 f2 : List ℕ) (points : List Point) (k : ℕ)
+    → IsDecoded f0 (xs_of points) (ys_of points 0) k → IsDecoded f1 (xs_of points) (ys_of points 1) k → IsDecoded f2 (xs_of points) (ys_of points 2) k
+    → AreLimbs (values_at_zero f0 f1 f2) × (length points + k ≤ 2 * agreement_of_all f0 f1 f2 points) → IsKeyLine f0 f1 f2 points k
+line_of_decoded f0 f1 f2 points k first second third enough = record {
+  elements = (first.elements, second.elements, third.elements);
+  below = (first.below, second.below, third.below);
+  limbs = enough.0;
+  agrees = enough.1;
+}
+
 pub line_from_decoded : (f0 f1 f2 : List ℕ) (points : List Point) (k : ℕ) (o : Option Recovered)
     → IsDecoded f0 (xs_of points) (ys_of points 0) k → IsDecoded f1 (xs_of points) (ys_of points 1) k → IsDecoded f2 (xs_of points) (ys_of points 2) k
     → (IsSome o ↔ (AreLimbs (values_at_zero f0 f1 f2) × (length points + k ≤ 2 * agreement_of_all f0 f1 f2 points)))
@@ -68,15 +87,24 @@ pub line_from_decoded : (f0 f1 f2 : List ℕ) (points : List Point) (k : ℕ) (o
     → IfSome o (λ r. (q0 : List ℕ) × (q1 : List ℕ) × (q2 : List ℕ) × IsKeyLine q0 q1 q2 points k × IsRecoveredFrom r q0 q1 q2 points)
 line_from_decoded f0 f1 f2 points k None first second third found from = tt
 line_from_decoded f0 f1 f2 points k (Some r) first second third found from =
-    let enough = found.0 refl in (
-      f0,
-      f1,
-      f2,
-      record {
-        elements = (first.elements, second.elements, third.elements);
-        below = (first.below, second.below, third.below);
-        limbs = enough.0;
-        agrees = enough.1;
-      },
-      from,
-    )
+    (f0, f1, f2, line_of_decoded f0 f1 f2 points k first second third (found.0 refl), from)
+
+-- the same of polynomials through the first k points
+pub short_line_from_decoded : (f0 f1 f2 : List ℕ) (points : List Point) (k : ℕ) (o : Option Recovered)
+    → IsDecodedShort f0 (xs_of points) (ys_of points 0) k → IsDecodedShort f1 (xs_of points) (ys_of points 1) k → IsDecodedShort f2 (xs_of points) (ys_of points 2) k
+    → (IsSome o ↔ (AreLimbs (values_at_zero f0 f1 f2) × (length points + k ≤ 2 * agreement_of_all f0 f1 f2 points)))
+    → IfSome o (λ r. IsRecoveredFrom r f0 f1 f2 points)
+    → IfSome o (λ r. (q0 : List ℕ) × (q1 : List ℕ) × (q2 : List ℕ) × IsShortKeyLine q0 q1 q2 points k × IsRecoveredFrom r q0 q1 q2 points)
+short_line_from_decoded f0 f1 f2 points k None first second third found from = tt
+short_line_from_decoded f0 f1 f2 points k (Some r) first second third found from = (
+  f0,
+  f1,
+  f2,
+  record {
+    line = line_of_decoded f0 f1 f2 points k first.decoded second.decoded third.decoded (found.0 refl);
+    first = first.passes;
+    second = second.passes;
+    third = third.passes;
+  },
+  from,
+)

@@ -1,7 +1,9 @@
 -- The three polynomials whose values at 0 are the limbs of a key, and the points on them.
 use Rattle.std.specs.Prelude.{ℕ, ◌≡◌, ◌+◌, ◌*◌, ◌≤◌, Bool, ◌&&◌, cond, nat_eq, List, [], ◌∷◌, length, slice_index, map}
 use Rattle.field61.specs.Field.{AreElements}
-use Rattle.poly61.specs.Poly.{value, HasDegreeBelow, SameCoefficients}
+use Rattle.poly61.specs.Poly.{SameCoefficients}
+pub use Rattle.poly61.specs.Poly.{value, HasDegreeBelow, AreDistinct}
+use Rattle.gao_decoder.specs.Decoding.{PassesFirst}
 use Rattle.shamir_limbs.specs.Coefficients.{values}
 use Rattle.shamir_limbs.specs.Limbs.{limbs, AreLimbs}
 use Rattle.shamir_limbs.specs.declared.recovery.Recovered.{Recovered}
@@ -36,6 +38,13 @@ pub record IsKeyLine (q0 q1 q2 : List ℕ) (points : List Point) (k : ℕ) : Typ
   pub below : HasDegreeBelow q0 k × HasDegreeBelow q1 k × HasDegreeBelow q2 k
   pub limbs : AreLimbs (values_at_zero q0 q1 q2)
   pub agrees : length points + k ≤ 2 * agreement_of_all q0 q1 q2 points
+
+-- and each of them passes through the first k points
+pub record IsShortKeyLine (q0 q1 q2 : List ℕ) (points : List Point) (k : ℕ) : Type 0 where
+  pub line : IsKeyLine q0 q1 q2 points k
+  pub first : PassesFirst q0 (xs_of points) (ys_of points 0) k
+  pub second : PassesFirst q1 (xs_of points) (ys_of points 1) k
+  pub third : PassesFirst q2 (xs_of points) (ys_of points 2) k
 
 -- this is the key whose limbs are the values at 0, and how many of the points lie on all three polynomials
 pub record IsRecoveredFrom (r : Recovered) (q0 q1 q2 : List ℕ) (points : List Point) : Type 0 where

@@ -6,13 +6,14 @@ mod coefficients;
 mod key;
 mod key_work;
 pub mod laws;
+mod limb_work;
 mod recovery;
 mod share;
 
 pub use coefficients::Coefficients;
 pub use key::{Key, key_of, limbs_of};
 pub use key_work::KeyWork;
-pub use recovery::{Recovered, recover};
+pub use recovery::{Recovered, recover, recover_short};
 pub use share::{Point, share_at};
 
 #[cfg(test)]

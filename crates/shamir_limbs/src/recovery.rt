@@ -1,15 +1,13 @@
-ghost use Rattle.std.specs.Prelude.{◌≡◌, ℕ, ◌+◌, ◌*◌, ◌^◌, ◌<◌, ◌≤◌, ◌↔◌, List, length, vec_capacity, IsTrue, IsSome, IfSome, IsSomeAnd};
-ghost use Rattle.poly61.specs.Poly.{SameCoefficients, AreDistinct};
-ghost use Rattle.gao_decoder.specs.Decoding.{IsDecoded};
+ghost use Rattle.std.specs.Prelude.{◌≡◌, ℕ, ◌+◌, ◌*◌, ◌^◌, ◌<◌, ◌≤◌, ◌↔◌, List, length, IsSome, IfSome, IsSomeAnd};
+ghost use Rattle.poly61.specs.Poly.{AreDistinct};
 ghost use Rattle.shamir_limbs.specs.Limbs.{IsKey, AreLimbs};
-ghost use Rattle.shamir_limbs.specs.KeyLine.{xs_of, ys_of, is_on_all, agreement_of_all, values_at_zero, IsKeyLine, IsRecoveredFrom};
+ghost use Rattle.shamir_limbs.specs.KeyLine.{xs_of, is_on_all, agreement_of_all, values_at_zero, IsKeyLine, IsShortKeyLine, IsRecoveredFrom};
 ghost use Rattle.shamir_limbs.specs.Search.{key_line_of};
 
 use crate::key::{Key, key_of};
 use crate::key_work::KeyWork;
 use crate::share::Point;
 use field61::Fe;
-use gao_decoder::{Scratch, decode};
 use poly61::Poly;
 
 /// A key, and how many points lie on all three of its polynomials.
@@ -34,39 +32,41 @@ pub fn recover(work: &mut KeyWork, points: &[Point], k: usize) -> Option<Recover
         → IsSomeAnd result (λ r. IsRecoveredFrom r q0 q1 q2 points.now) }
     ensures line { result ≡ key_line_of points.now k }
 {
-    fill_xs(&mut work.xs, points);
-    let xs = &work.xs;
-    if !decode_limb(
-        &mut work.scratch,
-        xs,
-        &mut work.ys,
-        points,
-        0,
-        k,
-        &mut work.first,
-    ) {
+    let limbs = &mut work.limbs;
+    if !limbs.decode(points, 0, k, &mut work.first) {
         return None;
     }
-    if !decode_limb(
-        &mut work.scratch,
-        xs,
-        &mut work.ys,
-        points,
-        1,
-        k,
-        &mut work.second,
-    ) {
+    if !limbs.decode_near(&work.first, points, 1, k, &mut work.second) {
         return None;
     }
-    if !decode_limb(
-        &mut work.scratch,
-        xs,
-        &mut work.ys,
-        points,
-        2,
-        k,
-        &mut work.third,
-    ) {
+    if !limbs.decode_near(&work.first, points, 2, k, &mut work.third) {
+        return None;
+    }
+    key_through(&work.first, &work.second, &work.third, points, k)
+}
+
+/// Tries the three polynomials of degree below k through the first k points alone: gives the key
+/// exactly where they are those that [`recover`] finds. Takes no memory.
+pub fn recover_short(work: &mut KeyWork, points: &[Point], k: usize) -> Option<Recovered>
+    requires distinct { AreDistinct (xs_of points.now) }
+    requires some { 1 ≤ k }
+    requires threshold { k ≤ length points.now }
+    requires work { length points.now ≤ work.old }
+    requires points { length points.now < 2 ^ 32 }
+    ensures work { work.new ≡ work.old }
+    ensures found { IfSome result (λ r. (q0 : List ℕ) × (q1 : List ℕ) × (q2 : List ℕ)
+        × IsShortKeyLine q0 q1 q2 points.now k × IsRecoveredFrom r q0 q1 q2 points.now) }
+    ensures only { (q0 q1 q2 : List ℕ) → IsShortKeyLine q0 q1 q2 points.now k
+        → IsSomeAnd result (λ r. IsRecoveredFrom r q0 q1 q2 points.now) }
+{
+    let limbs = &mut work.limbs;
+    if !limbs.decode_short(points, 0, k, &mut work.first) {
+        return None;
+    }
+    if !limbs.decode_short(points, 1, k, &mut work.second) {
+        return None;
+    }
+    if !limbs.decode_short(points, 2, k, &mut work.third) {
         return None;
     }
     key_through(&work.first, &work.second, &work.third, points, k)
@@ -98,61 +98,6 @@ fn key_through(
         return None;
     }
     Some(Recovered { key, agree })
-}
-
-// Makes xs the x of the points.
-fn fill_xs(xs: &mut Vec<Fe>, points: &[Point])
-    requires { length points.now ≤ vec_capacity xs.old }
-    ensures items { xs.new.items ≡ xs_of points.now }
-    ensures capacity { vec_capacity xs.new ≡ vec_capacity xs.old }
-{
-    xs.clear();
-    for i in 0..points.len() {
-        xs.push_reserved(points[i].x);
-    }
-}
-
-// Makes ys the y of the points for one limb.
-fn fill_ys(ys: &mut Vec<Fe>, points: &[Point], limb: usize)
-    requires limb { limb < 3 }
-    requires capacity { length points.now ≤ vec_capacity ys.old }
-    ensures items { ys.new.items ≡ ys_of points.now limb }
-    ensures capacity { vec_capacity ys.new ≡ vec_capacity ys.old }
-{
-    ys.clear();
-    for i in 0..points.len() {
-        let y = points[i].y;
-        ys.push_reserved(y[limb]);
-    }
-}
-
-// Decodes one limb.
-fn decode_limb(
-    scratch: &mut Scratch,
-    xs: &[Fe],
-    ys: &mut Vec<Fe>,
-    points: &[Point],
-    limb: usize,
-    k: usize,
-    out: &mut Poly,
-) -> bool
-    requires limb { limb < 3 }
-    requires xs { xs.now ≡ xs_of points.now }
-    requires distinct { AreDistinct (xs_of points.now) }
-    requires some { 1 ≤ k }
-    requires threshold { k ≤ length points.now }
-    requires scratch { length points.now ≤ scratch.old }
-    requires capacity { length points.now ≤ vec_capacity ys.old }
-    requires room { k ≤ length out.old }
-    ensures scratch { scratch.new ≡ scratch.old }
-    ensures capacity { vec_capacity ys.new ≡ vec_capacity ys.old }
-    ensures room { length out.new ≡ length out.old }
-    ensures found { IsTrue result → IsDecoded out.new (xs_of points.now) (ys_of points.now limb) k }
-    ensures complete { (f : List ℕ) → IsDecoded f (xs_of points.now) (ys_of points.now limb) k → IsTrue result }
-    ensures only { (f : List ℕ) → IsDecoded f (xs_of points.now) (ys_of points.now limb) k → SameCoefficients out.new f }
-{
-    fill_ys(ys, points, limb);
-    decode(scratch, xs, ys, k, out)
 }
 
 fn is_on_all(first: &Poly, second: &Poly, third: &Poly, point: &Point) -> bool

@@ -1,5 +1,0 @@
-use Rattle.std.proofs.Common.{◌≡◌, ◌≤◌, length}
-use Rattle.gao_decoder.proofs.decoder.decode_sampled.Given as goal
-
-abbrev pub invariant-loop : goal.invariant-loop
-invariant-loop l = record { scratch : l.scratch ≡ l.fn.scratch; room : length l.out ≡ length l.fn.out; size : l.k ≤ l.size }

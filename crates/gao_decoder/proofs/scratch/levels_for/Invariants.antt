@@ -1,4 +1,0 @@
-use Rattle.gao_decoder.proofs.scratch.levels_for.Given as goal
-
-abbrev pub decreases-loop-points : goal.decreases-loop-points
-decreases-loop-points l = l.points
