@@ -9,7 +9,7 @@ ghost use Rattle.gao_decoder.specs.Halving.{row_at, TakesTo, IsPivoted, IsSumOfP
 
 use crate::sequence::goes_on;
 use field61::{Fe, know_elements, sum_of_two};
-use poly61::{Poly, fill_powers};
+use poly61::{Poly, ProductRoom, fill_powers};
 use star_io::NoMemory;
 use std::alloc::Global;
 use std::mem;
@@ -43,7 +43,7 @@ pub(crate) struct Halves {
     levels: Vec<Level>,
     firsts: Vec<Fe>,
     seconds: Vec<Fe>,
-    work: Vec<Fe>,
+    products: ProductRoom,
 }
 
 // Twice the orders of the two rows. The lower one is the pivot.
@@ -259,25 +259,32 @@ fn update(rows: &Rows, xs: &[Fe], firsts: &mut [Fe], seconds: &mut [Fe], from: u
 }
 
 // Makes it f · g + h · l.
-fn sum_products(out: &mut Poly, f: &Poly, g: &Poly, h: &Poly, l: &Poly, work: &mut [Fe]) -> bool
+fn sum_products(
+    out: &mut Poly,
+    f: &Poly,
+    g: &Poly,
+    h: &Poly,
+    l: &Poly,
+    products: &mut ProductRoom,
+) -> bool
     ensures { IsTrue result → IsSumOfProducts out.new f.now g.now h.now l.now }
 {
     out.clear();
-    if !out.add_product(f, g, work) {
+    if !products.add(out, f, g) {
         return false;
     }
-    out.add_product(h, l, work)
+    products.add(out, h, l)
 }
 
 // Makes it the row's product with the two rows.
-fn row_product(out: &mut Row, row: &Row, rows: &Rows, work: &mut [Fe]) -> bool
+fn row_product(out: &mut Row, row: &Row, rows: &Rows, products: &mut ProductRoom) -> bool
     ensures { IsTrue result → (x a b : ℕ) → row_at out.new.v out.new.r x a b
         ≡ row_at row.now.v row.now.r x (row_at rows.now.a.v rows.now.a.r x a b) (row_at rows.now.b.v rows.now.b.r x a b) }
 {
-    if !sum_products(&mut out.v, &row.v, &rows.a.v, &row.r, &rows.b.v, work) {
+    if !sum_products(&mut out.v, &row.v, &rows.a.v, &row.r, &rows.b.v, products) {
         return false;
     }
-    sum_products(&mut out.r, &row.v, &rows.a.r, &row.r, &rows.b.r, work)
+    sum_products(&mut out.r, &row.v, &rows.a.r, &row.r, &rows.b.r, products)
 }
 
 // Finds rows that take the pair of each point of the run to (0, 0).
@@ -291,7 +298,7 @@ fn halve(
     rows: &mut Rows,
     level: &mut Level,
     rest: &mut [Level],
-    work: &mut [Fe],
+    products: &mut ProductRoom,
 ) -> bool
     requires order { from ≤ to }
     requires within { to ≤ length xs.now }
@@ -319,7 +326,7 @@ fn halve(
         &mut level.first,
         next,
         below,
-        work,
+        products,
     ) {
         return false;
     }
@@ -337,14 +344,14 @@ fn halve(
         &mut level.second,
         next,
         below,
-        work,
+        products,
     ) {
         return false;
     }
-    if !row_product(&mut rows.a, &level.second.a, &level.first, work) {
+    if !row_product(&mut rows.a, &level.second.a, &level.first, products) {
         return false;
     }
-    row_product(&mut rows.b, &level.second.b, &level.first, work)
+    row_product(&mut rows.b, &level.second.b, &level.first, products)
 }
 
 // Makes row a one that takes each (y, -1) to 0: the one of lower order.
@@ -356,7 +363,7 @@ fn find_row(
     seconds: &mut [Fe],
     rows: &mut Rows,
     levels: &mut [Level],
-    work: &mut [Fe],
+    products: &mut ProductRoom,
 ) -> bool
     requires pairs { length ys.now ≡ length xs.now }
     ensures { IsTrue result → IsTied rows.new.a.r rows.new.a.v xs.now ys.now }
@@ -388,7 +395,7 @@ fn find_row(
         rows,
         level,
         rest,
-        work,
+        products,
     ) {
         return false;
     }
@@ -442,13 +449,13 @@ impl Halves {
         let levels = levels_for(alloc, n)?;
         let firsts = vec![in alloc; Fe::ZERO; n]?;
         let seconds = vec![in alloc; Fe::ZERO; n]?;
-        let work = vec![in alloc; Fe::ZERO; room]?;
+        let products = ProductRoom::with_room(alloc, n / 2 + 2, room)?;
         Ok(Halves {
             rows,
             levels,
             firsts,
             seconds,
-            work,
+            products,
         })
     }
 
@@ -467,7 +474,7 @@ impl Halves {
             &mut self.seconds,
             &mut self.rows,
             &mut self.levels,
-            &mut self.work,
+            &mut self.products,
         ) {
             return None;
         }

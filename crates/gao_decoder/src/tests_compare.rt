@@ -203,3 +203,24 @@ fn points_of_which_samples_are_taken(rt: HostRuntime) -> Result<(), Fail> {
     }
     Ok(())
 }
+
+// So many points that products are taken by halves.
+#[test]
+fn many_points(rt: HostRuntime) -> Result<(), Fail> {
+    let alloc = rt.alloc();
+    let (n, k) = (600, 4);
+    for wrong in [297, 298, 299] {
+        for what in [Wrong::Random, Wrong::OnAnother] {
+            let place = Place::Spread;
+            let case = Case {
+                n,
+                k,
+                wrong,
+                what,
+                place,
+            };
+            assert_eq!(rt; compare(alloc, case)?, true, "{case:?}");
+        }
+    }
+    Ok(())
+}

@@ -2,7 +2,7 @@
 use Rattle.std.proofs.Common.{ℕ, suc, ◌+◌, ◌<◌, ◌≡◌, ◌⊎◌, ◌∙◌, sym, ap, arith, inl, inr}
 use Rattle.field61.specs.declared.TheConstants.{MODULUS}
 use Rattle.field61.specs.Field.{field_sum, field_product, field_negative, field_difference, field_power}
-use Rattle.field61.proofs.FieldLaws.{product_below, sum_zero, zero_sum, sum_associates, sum_negative, product_zero, zero_product, product_commutes, one_product, product_cancels, negative_product, difference_is_sum, difference_zero, difference_is_zero, modulus_positive, power_next}
+use Rattle.field61.proofs.FieldLaws.{negative_below, sum_commutes, product_below, sum_zero, zero_sum, sum_associates, sum_negative, product_zero, zero_product, product_commutes, one_product, product_cancels, negative_product, difference_is_sum, difference_zero, difference_is_zero, modulus_positive, power_next}
 
 pub zero_sum_zero : field_sum 0 0 ≡ 0
 zero_sum_zero = sum_zero 0 modulus_positive
@@ -19,6 +19,11 @@ minus_self a below = ap (field_sum a) (minus_one a below) ∙ sum_negative a
 
 pub minus_is_zero : (a b : ℕ) → a < MODULUS → b < MODULUS → field_sum a (field_product (field_negative 1) b) ≡ 0 → a ≡ b
 minus_is_zero a b a_below b_below none = difference_is_zero a b a_below b_below (difference_is_sum a b ∙ ap (field_sum a) (sym (minus_one b b_below)) ∙ none)
+
+pub minus_minus : field_negative (field_negative 1) ≡ 1
+minus_minus =
+    let n : ℕ = field_negative 1 in
+    minus_is_zero (field_negative n) 1 (negative_below n) (omega arith) (ap (field_sum (field_negative n)) (minus_one 1 (omega arith)) ∙ sum_commutes (field_negative n) n ∙ sum_negative n)
 
 -- taking a product off is adding that with the negative
 pub difference-product : (x c o : ℕ) → field_difference x (field_product c o) ≡ field_sum x (field_product (field_negative c) o)

@@ -2,6 +2,7 @@ pub mod Elements
 pub mod Places
 pub mod Counts
 pub mod Roots
+pub mod Halves
 pub mod Lists
 pub mod Values
 pub mod Products

@@ -51,6 +51,19 @@ pub(crate) fn copy_all(coefficients: &mut [Fe], other: &[Fe])
     }
 }
 
+/// Copies a run of coefficients, and answers how many places count then.
+pub(crate) fn copy_run(coefficients: &mut [Fe], run: &[Fe]) -> usize
+    requires elements { AreElements run.now }
+    requires room { length run.now ≤ length coefficients.old }
+    ensures elements { AreElements coefficients.new }
+    ensures same { SameCoefficients coefficients.new run.now }
+    ensures within { result ≤ length coefficients.new }
+    ensures below { HasDegreeBelow coefficients.new result }
+{
+    copy_all(coefficients, run);
+    places_of(coefficients, run.len())
+}
+
 /// Multiplies by (x - a), where these places hold the product.
 pub(crate) fn times_linear_all(coefficients: &mut [Fe], places: usize, a: Fe)
     requires elements { AreElements coefficients.old }

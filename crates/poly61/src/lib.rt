@@ -8,9 +8,11 @@ mod blocks;
 mod coefficients;
 pub mod laws;
 mod poly;
+mod product_room;
 
 pub use blocks::fill_powers;
 pub use poly::Poly;
+pub use product_room::ProductRoom;
 
 #[cfg(test)]
 mod tests;

@@ -1,13 +1,13 @@
-ghost use Rattle.std.specs.Prelude.{IsTrue, ◌≡◌, ◌≢◌, ◌⊎◌, ◌↔◌, ℕ, ◌<◌, ◌+◌, ◌-◌, length, slice_index, slice_set, Some, IsNone, IfOk};
+ghost use Rattle.std.specs.Prelude.{IsTrue, ◌≡◌, ◌≢◌, ◌⊎◌, ◌↔◌, ℕ, ◌<◌, ◌≤◌, ◌+◌, ◌-◌, length, slice_index, slice_set, Some, IsNone, IfOk};
 ghost use Rattle.field61.specs.Field.{field_difference, field_product, field_power, AreElements};
 ghost use Rattle.field61.specs.declared.TheConstants.{MODULUS};
 ghost use Rattle.poly61.specs.Poly.{value, IsZero, HasDegree, HasDegreeBelow, SameCoefficients, IsLinearMultiple, TakesOff, AreDistinct, PassesThrough};
 ghost use Rattle.poly61.specs.Vanishing.{vanishing_of};
-ghost use Rattle.poly61.specs.Blocks.{ArePowers, IsBlend, AddsProduct};
+ghost use Rattle.poly61.specs.Blocks.{ArePowers, IsBlend, AddsProduct, AddsShifted, Subtracts};
 
 use crate::blocks::{add_product_all, blend_all, fill_powers, value_in_blocks};
 use crate::coefficients::{
-    clear_all, copy_all, divide_all, places_of, take_off_all, times_linear_all, value_of,
+    clear_all, copy_all, copy_run, divide_all, places_of, take_off_all, times_linear_all, value_of,
 };
 use field61::{Fe, know_elements};
 use star_io::NoMemory;
@@ -175,6 +175,54 @@ impl Poly {
             g.places,
             work,
         );
+        true
+    }
+
+    /// How many coefficients count: the last of them is not 0.
+    pub(crate) fn places(&self) -> usize
+        ensures within { result ≤ length self.now }
+        ensures below { HasDegreeBelow self.now result }
+    {
+        self.places
+    }
+
+    /// Makes it these places of the other one, where there is room.
+    pub(crate) fn copy_places(&mut self, other: &Poly, from: usize, to: usize) -> bool
+        ensures order { IsTrue result → from ≤ to }
+        ensures places { IsTrue result → (i : ℕ) → i < to - from → slice_index self.new i ≡ slice_index other.now (from + i) }
+        ensures below { IsTrue result → HasDegreeBelow self.new (to - from) }
+    {
+        if from > to || to > other.coefficients.len() || to - from > self.coefficients.len() {
+            return false;
+        }
+        let run = &other.coefficients[from..to];
+        know_elements(run);
+        self.places = copy_run(&mut self.coefficients, run);
+        true
+    }
+
+    /// Adds x^shift · other, where there is room.
+    pub(crate) fn add_shifted(&mut self, shift: usize, other: &Poly) -> bool
+        ensures { IsTrue result → AddsShifted self.old self.new shift other.now }
+    {
+        let room = self.coefficients.len();
+        if other.places > room || shift > room - other.places {
+            return false;
+        }
+        self.know();
+        self.take_off(Fe::ONE.neg(), shift, other);
+        true
+    }
+
+    /// Takes the other one off, where there is room.
+    pub(crate) fn subtract(&mut self, other: &Poly) -> bool
+        ensures { IsTrue result → Subtracts self.old self.new other.now }
+    {
+        if other.places > self.coefficients.len() {
+            return false;
+        }
+        self.know();
+        self.take_off(Fe::ONE, 0, other);
         true
     }
 

@@ -9,5 +9,5 @@ pub returns : goal.returns
 returns c t z =
     let f = field_product (value c.args.f.now z) (value c.args.g.now z) in
     let h = field_product (value c.args.h.now z) (value c.args.l.now z) in
-    c.add_product-2.ensures.product t z ∙ ap (λ y. field_sum y (field_product (value c.args.h.now z) (value c.args.l.now z))) (c.if-not-add_product.ensures.product refl z
+    c.add-2.ensures t z ∙ ap (λ y. field_sum y (field_product (value c.args.h.now z) (value c.args.l.now z))) (c.if-not-add.ensures refl z
     ∙ ap (λ y. field_sum y (field_product (value c.args.f.now z) (value c.args.g.now z))) (value-zero c.clear.new.self z c.clear.ensures.zero) ∙ zero_sum _ (product_below _ _))
