@@ -4,7 +4,7 @@ use Rattle.std.specs.Int.{w32, to_be_bytes}
 use Rattle.std.proofs.lemmas.List.{map-append, append-nil}
 use Rattle.std.proofs.lemmas.List.FromFn.{map-range_with_len_more}
 use Rattle.star_io.specs.Records.{Begins, BeginAll, AreRecords}
-use Rattle.star_io.specs.declared.record.TheConstants.{MAX_RECORD}
+use Rattle.star_io.specs.declared.record.TheConstants.{MAX_RECORD_BYTES}
 use Rattle.star_io.specs.declared.record.Record.{Record}
 use Rattle.star_io.specs.declared.record.Record.TheVariants.{Whole}
 use Rattle.star_io.proofs.RecordLaws.{begin_more}
@@ -29,7 +29,7 @@ more_behind (body ∷ bodies) bytes rest more all = (
 )
 
 -- a record behind those of f 0, f 1 and so on
-pub one_more : (f : ℕ → List ℕ) (n : ℕ) (text next body : List ℕ) → AreRecords (whole (first_of f n)) text → length body ≤ MAX_RECORD → body ≡ f n
+pub one_more : (f : ℕ → List ℕ) (n : ℕ) (text next body : List ℕ) → AreRecords (whole (first_of f n)) text → length body ≤ MAX_RECORD_BYTES → body ≡ f n
     → next ≡ text ++ (to_be_bytes w32 (length body) ++ body) → AreRecords (whole (first_of f (n + 1))) next
 one_more f n text next body so_far short body_is next_is =
     let spelt : List ℕ = to_be_bytes w32 (length body) ++ body in

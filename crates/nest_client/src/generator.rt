@@ -2,7 +2,7 @@ ghost use Rattle.std.specs.Prelude.{◌≡◌, ◌≤◌, ◌<◌, ◌+◌, ◌+
 ghost use Rattle.std.specs.Int.{w32, to_be_bytes};
 ghost use Rattle.sha2.specs.Sha256.{sha256};
 ghost use Rattle.star_io.specs.Records.{AreRecords};
-ghost use Rattle.star_io.specs.declared.record.TheConstants.{MAX_RECORD};
+ghost use Rattle.star_io.specs.declared.record.TheConstants.{MAX_RECORD_BYTES};
 ghost use Rattle.nest_client.specs.Generator.{drawn, lettered, drawn_frame, drawn_records};
 
 use crate::client::client_nonce;
@@ -36,7 +36,7 @@ pub fn gen_text(alloc: Global, number: u32, reports: u32, liars: u32) -> Result<
 // The frame of client i.
 fn drawn_frame(alloc: Global, number: u32, liars: u32, i: u32) -> Result<Vec<u8>, NoMemory>
     ensures bytes { IfOk result (λ v. v.items ≡ drawn_frame number liars i) }
-    ensures short { IfOk result (λ v. length v.items ≤ MAX_RECORD) }
+    ensures short { IfOk result (λ v. length v.items ≤ MAX_RECORD_BYTES) }
 {
     let seed = labelled(b"STARGENB", number);
     let draws = draws_of(number, i);

@@ -1,7 +1,7 @@
 ghost use Rattle.std.specs.Prelude.{◌≡◌, ◌≤◌, ◌<◌, ◌++◌, [], ◌∷◌, ◌^◌, ℕ, List, length, get_or, IfOk, OnOk};
 ghost use Rattle.std.specs.Int.{w32, to_be_bytes};
 ghost use Rattle.star_io.specs.Records.{AreRecords};
-ghost use Rattle.star_io.specs.declared.record.TheConstants.{MAX_RECORD};
+ghost use Rattle.star_io.specs.declared.record.TheConstants.{MAX_RECORD_BYTES};
 ghost use Rattle.report_frame.specs.Thresholds.{AreThresholds};
 ghost use Rattle.nest_client.specs.Stream.{whole, table_records};
 
@@ -33,7 +33,7 @@ pub fn make_text(
 
 /// Puts a record with these bytes last.
 pub(crate) fn push_record(text: &mut Vec<u8>, bytes: &[u8]) -> Result<(), NoMemory>
-    requires { length bytes.now ≤ MAX_RECORD }
+    requires { length bytes.now ≤ MAX_RECORD_BYTES }
     ensures { OnOk result (text.new.items ≡ text.old.items ++ (to_be_bytes w32 (length bytes.now) ++ bytes.now)) }
 {
     text.extend_from_slice(&(bytes.len() as u32).to_be_bytes())?;

@@ -2,7 +2,7 @@
 use Rattle.std.proofs.Common.{◌≡◌, ℕ, ◌+◌, ◌-◌, ◌^◌, ◌<◌, ◌≤◌, Bool, true, cond, List, refl, ap, ◌∙◌, arith, inl, inr, add-one}
 use Rattle.std.proofs.lemmas.Bool.{cases_lt, ltb-true}
 use Rattle.star_io.specs.Faults.{count_after, Rose}
-use Rattle.star_io.specs.Tape.{fails_at, faults_of}
+use Rattle.star_io.specs.MemorySource.{fails_at, faults_of}
 
 -- the count after one more call
 one_more : (fails : List ℕ) (c : ℕ) → faults_of fails (c + 1) ≡ faults_of fails c + cond (fails_at fails c) 1 0

@@ -1,5 +1,7 @@
 pub mod ByteLists
-pub mod Calls
+mod Calls
 pub mod KnownBytes
-pub mod NextRecord
+mod NextRecord
+pub mod RecordListLaws
 pub mod RecordLaws
+mod Streams

@@ -1,74 +1,65 @@
 -- The laws of records: a list of bytes begins with one record at most, and is the spelling of one list of records.
-use Rattle.std.proofs.Common.{◌≡◌, ℕ, zero, suc, ◌+◌, ◌^◌, ◌<◌, ◌≤◌, Bool, false, cond, ltb, List, [], ◌∷◌, ◌++◌, length, get_or, take, drop, refl, sym, ap, subst, ◌∙◌, append_assoc, arith, inl, inr, length-append}
+use Rattle.std.proofs.Common.{◌≡◌, ℕ, zero, suc, ◌+◌, ◌^◌, ◌<◌, ◌≤◌, Bool, false, cond, List, [], ◌∷◌, ◌++◌, length, get_or, take, drop, refl, sym, ap, subst, ◌∙◌, append_assoc, arith, inl, inr, length-append}
+use Rattle.std.specs.Prelude.{nat_lt}
 use Rattle.std.specs.Int.{w32, to_be_bytes, from_be_bytes}
 use Rattle.std.proofs.lemmas.Bool.{cases_lt, le-ltb, lt-ltb}
 use Rattle.std.proofs.lemmas.List.{take_at, drop_at, take-append-drop, length-take, length-drop, nil_from_length, drop-drop}
 use Rattle.std.proofs.lemmas.Nat.{be_bytes_4, from_be_bytes-to_be_bytes_4}
-use Rattle.star_io.specs.declared.record.TheConstants.{MAX_RECORD}
+use Rattle.star_io.specs.declared.record.TheConstants.{MAX_RECORD_BYTES}
 use Rattle.star_io.specs.declared.record.Record.{Record}
 use Rattle.star_io.specs.declared.record.Record.TheVariants.{Whole, TooLong, CutLength, CutRecord}
 use Rattle.star_io.specs.Records.{Begins, BeginAll, AreRecords, HasOneList}
+use Rattle.star_io.specs.RecordLists.{record_of_length, first_record}
 use Rattle.star_io.specs.Bytes.{AreBytes}
 use Rattle.star_io.proofs.ByteLists.{AreBytes-drop, AreBytes-get_or, AreBytes-take}
 
--- the record of this length in the bytes that follow its length, and what follows it
-unfoldable after_length : ℕ → List ℕ → Record × List ℕ
-after_length said tail =
-    cond (ltb (length tail) said) (CutRecord said (length tail), [])
-    (cond (ltb MAX_RECORD said) (TooLong said, drop said tail) (Whole (take said tail), drop said tail))
-
--- the first record of a list of bytes, as a function, and what follows it
-unfoldable first_of : List ℕ → Record × List ℕ
-first_of bytes =
-    cond (ltb (length bytes) 4) (CutLength (length bytes), []) (after_length (from_be_bytes w32 (take 4 bytes)) (drop 4 bytes))
-
 -- after a whole length
-at_length : (said : ℕ) (tail : List ℕ) → said < 2 ^ 32 → first_of (to_be_bytes w32 said ++ tail) ≡ after_length said tail
-unfolding first_of
+at_length : (said : ℕ) (tail : List ℕ) → said < 2 ^ 32 → first_record (to_be_bytes w32 said ++ tail) ≡ record_of_length said tail
+unfolding first_record
 at_length said tail lt =
     let front : take 4 (to_be_bytes w32 said ++ tail) ≡ to_be_bytes w32 said = take_at (to_be_bytes w32 said) tail 4 refl in
     let back : drop 4 (to_be_bytes w32 said ++ tail) ≡ tail = drop_at (to_be_bytes w32 said) tail 4 refl in
-    let long : ltb (length (to_be_bytes w32 said ++ tail)) 4 ≡ false = le-ltb _ _ (omega (arith, length-append (to_be_bytes w32 said) tail)) in
+    let long : nat_lt (length (to_be_bytes w32 said ++ tail)) 4 ≡ false = le-ltb _ _ (omega (arith, length-append (to_be_bytes w32 said) tail)) in
     let whole : List ℕ = to_be_bytes w32 said ++ tail in
-    let first : first_of whole ≡ after_length (from_be_bytes w32 (take 4 whole)) (drop 4 whole) =
-    ap (λ (b : Bool). cond b (CutLength (length whole), []) (after_length (from_be_bytes w32 (take 4 whole)) (drop 4 whole))) long in
-    first ∙ ap (λ (n : ℕ). after_length n (drop 4 whole)) (ap (from_be_bytes w32) front ∙ from_be_bytes-to_be_bytes_4 said lt) ∙ ap (after_length said) back
+    let first : first_record whole ≡ record_of_length (from_be_bytes w32 (take 4 whole)) (drop 4 whole) =
+    ap (λ (b : Bool). cond b (CutLength (length whole), []) (record_of_length (from_be_bytes w32 (take 4 whole)) (drop 4 whole))) long in
+    first ∙ ap (λ (n : ℕ). record_of_length n (drop 4 whole)) (ap (from_be_bytes w32) front ∙ from_be_bytes-to_be_bytes_4 said lt) ∙ ap (record_of_length said) back
 
 -- the body of a record that is kept
-after_whole : (body rest : List ℕ) → length body ≤ MAX_RECORD → after_length (length body) (body ++ rest) ≡ (Whole body, rest)
-unfolding after_length
+after_whole : (body rest : List ℕ) → length body ≤ MAX_RECORD_BYTES → record_of_length (length body) (body ++ rest) ≡ (Whole body, rest)
+unfolding record_of_length
 after_whole body rest le =
-    let enough : ltb (length (body ++ rest)) (length body) ≡ false = le-ltb _ _ (omega (arith, length-append body rest)) in
-    let short : ltb MAX_RECORD (length body) ≡ false = le-ltb _ _ le in
+    let enough : nat_lt (length (body ++ rest)) (length body) ≡ false = le-ltb _ _ (omega (arith, length-append body rest)) in
+    let short : nat_lt MAX_RECORD_BYTES (length body) ≡ false = le-ltb _ _ le in
     rw (enough, short, take_at body rest (length body) refl, drop_at body rest (length body) refl) refl
 
 -- that of one that is too long
-after_long : (said : ℕ) (body rest : List ℕ) → MAX_RECORD < said → length body ≡ said → after_length said (body ++ rest) ≡ (TooLong said, rest)
-unfolding after_length
+after_long : (said : ℕ) (body rest : List ℕ) → MAX_RECORD_BYTES < said → length body ≡ said → record_of_length said (body ++ rest) ≡ (TooLong said, rest)
+unfolding record_of_length
 after_long said body rest lt e =
-    let enough : ltb (length (body ++ rest)) said ≡ false = le-ltb _ _ (omega (arith, length-append body rest)) in
-    rw (enough, lt-ltb MAX_RECORD said lt, drop_at body rest said e) refl
+    let enough : nat_lt (length (body ++ rest)) said ≡ false = le-ltb _ _ (omega (arith, length-append body rest)) in
+    rw (enough, lt-ltb MAX_RECORD_BYTES said lt, drop_at body rest said e) refl
 
 -- that of one that is cut
-after_cut : (said : ℕ) (body : List ℕ) → length body < said → after_length said body ≡ (CutRecord said (length body), [])
-unfolding after_length
+after_cut : (said : ℕ) (body : List ℕ) → length body < said → record_of_length said body ≡ (CutRecord said (length body), [])
+unfolding record_of_length
 after_cut said body lt = rw (lt-ltb (length body) said lt) refl
 
 -- a length that is cut
-at_cut : (bytes : List ℕ) → length bytes < 4 → first_of bytes ≡ (CutLength (length bytes), [])
-unfolding first_of
+at_cut : (bytes : List ℕ) → length bytes < 4 → first_record bytes ≡ (CutLength (length bytes), [])
+unfolding first_record
 at_cut bytes lt = rw (lt-ltb (length bytes) 4 lt) refl
 
 -- the record with which the bytes begin is the first one
-begins_first : (r : Record) (bytes rest : List ℕ) → Begins r bytes rest → first_of bytes ≡ (r, rest)
+pub begins_first : (r : Record) (bytes rest : List ℕ) → Begins r bytes rest → first_record bytes ≡ (r, rest)
 begins_first (Whole body) bytes rest b =
-    ap first_of (b.1 ∙ append_assoc (to_be_bytes w32 (length body)) body rest) ∙ at_length (length body) (body ++ rest) (omega (arith, b.0)) ∙ after_whole body rest b.0
+    ap first_record (b.1 ∙ append_assoc (to_be_bytes w32 (length body)) body rest) ∙ at_length (length body) (body ++ rest) (omega (arith, b.0)) ∙ after_whole body rest b.0
 begins_first (TooLong said) bytes rest b =
-    ap first_of (b.2.2 ∙ append_assoc (to_be_bytes w32 said) b.2.0 rest) ∙ at_length said (b.2.0 ++ rest) b.1 ∙ after_long said b.2.0 rest b.0 b.2.1
+    ap first_record (b.2.2 ∙ append_assoc (to_be_bytes w32 said) b.2.0 rest) ∙ at_length said (b.2.0 ++ rest) b.1 ∙ after_long said b.2.0 rest b.0 b.2.1
 begins_first (CutLength have) bytes rest b =
     at_cut bytes (omega (arith, b.1, b.2)) ∙ ap (λ (n : ℕ). (CutLength n, [])) b.2 ∙ ap (λ (l : List ℕ). (CutLength have, l)) (sym b.3)
 begins_first (CutRecord said have) bytes rest b =
-    ap first_of b.2.2 ∙ at_length said b.2.0 b.1 ∙ after_cut said b.2.0 (omega (arith, b.2.1, b.0)) ∙ ap (λ (n : ℕ). (CutRecord said n, [])) b.2.1 ∙ ap (λ (l : List ℕ). (CutRecord said have, l)) (sym b.3)
+    ap first_record b.2.2 ∙ at_length said b.2.0 b.1 ∙ after_cut said b.2.0 (omega (arith, b.2.1, b.0)) ∙ ap (λ (n : ℕ). (CutRecord said n, [])) b.2.1 ∙ ap (λ (l : List ℕ). (CutRecord said have, l)) (sym b.3)
 
 -- the first record is determined, and so is what follows it
 pub same_first : (r q : Record) (bytes rest left : List ℕ) → Begins r bytes rest → Begins q bytes left → (r ≡ q) × (rest ≡ left)
@@ -116,14 +107,14 @@ begins_body said bytes tail fits spelt =
       | inl cut ↦ (CutRecord said (length tail), length tail, (cut, fits, (tail, refl, spelt), nil_from_length _ (omega (arith, length-drop (length tail) tail))))
       | inr whole ↦
           let body_length : length (take said tail) ≡ said = omega (arith, length-take said tail) in
-          elim (cases_lt MAX_RECORD said) [
+          elim (cases_lt MAX_RECORD_BYTES said) [
             | inl long ↦ (TooLong said, said, (long, fits, (take said tail, body_length, cut_in_two)))
             | inr short ↦ (Whole (take said tail), said, (omega arith, cut_in_two ∙ ap (λ (n : ℕ). (to_be_bytes w32 n ++ take said tail) ++ drop said tail) (sym body_length)))
           ]
     ]
 
 -- where at least one byte is left, some record stands
-begins_some : (bytes : List ℕ) → AreBytes bytes → 0 < length bytes → (r : Record) × (n : ℕ) × Begins r bytes (drop n bytes)
+pub begins_some : (bytes : List ℕ) → AreBytes bytes → 0 < length bytes → (r : Record) × (n : ℕ) × Begins r bytes (drop n bytes)
 begins_some bytes are_bytes some =
     elim (cases_lt (length bytes) 4) [
       | inl cut ↦ (CutLength (length bytes), length bytes, (some, cut, refl, nil_from_length _ (omega (arith, length-drop (length bytes) bytes))))

@@ -1,8 +1,9 @@
-pub mod Adapter
 pub mod Bytes
 pub mod Faults
-pub mod Page
+pub mod MemorySink
+pub mod MemorySource
 pub mod Reading
+pub mod RecordLists
 pub mod Records
-pub mod Tape
+pub mod StdAdapter
 pub mod Told

@@ -1,16 +1,16 @@
 -- A stream of bytes as records: a length of four bytes, and that many bytes.
 use Rattle.std.specs.Prelude.{◌≡◌, ℕ, ◌<◌, ◌≤◌, ◌^◌, List, [], ◌∷◌, ◌++◌, length}
 use Rattle.std.specs.Int.{w32, to_be_bytes}
-use Rattle.star_io.specs.declared.record.TheConstants.{MAX_RECORD}
+use Rattle.star_io.specs.declared.record.TheConstants.{MAX_RECORD_BYTES}
 use Rattle.star_io.specs.declared.record.Record.{Record}
 use Rattle.star_io.specs.declared.record.Record.TheVariants.{Whole, TooLong, CutLength, CutRecord}
 
 -- The bytes begin with the spelling of this record, and the rest follows it. A record that is cut has no rest.
 abbrev pub Begins : Record → List ℕ → List ℕ → Type 0
 Begins (Whole body) bytes rest =
-    (length body ≤ MAX_RECORD) × (bytes ≡ to_be_bytes w32 (length body) ++ body ++ rest)
+    (length body ≤ MAX_RECORD_BYTES) × (bytes ≡ to_be_bytes w32 (length body) ++ body ++ rest)
 Begins (TooLong said) bytes rest =
-    (MAX_RECORD < said) × (said < 2 ^ 32)
+    (MAX_RECORD_BYTES < said) × (said < 2 ^ 32)
     × ((body : List ℕ) × (length body ≡ said) × (bytes ≡ to_be_bytes w32 said ++ body ++ rest))
 Begins (CutLength have) bytes rest =
     (0 < have) × (have < 4) × (length bytes ≡ have) × (rest ≡ [])

@@ -1,11 +1,13 @@
 //! Laws of records: a list of bytes is the spelling of one list of records, whoever reads it.
 //!
 //! Each function does nothing, and its clause is the law. The proofs are those of
-//! `proofs/RecordLaws.antt`, which other proofs can cite.
-ghost use Rattle.std.specs.Prelude.{◌≡◌, ℕ, ◌<◌, ◌≤◌, List, [], ◌∷◌, ◌++◌, length};
+//! `proofs/RecordLaws.antt` and `proofs/RecordListLaws.antt`, which other proofs can cite.
+ghost use Rattle.std.specs.Prelude.{◌≡◌, ◌↔◌, ℕ, ◌<◌, ◌≤◌, List, [], ◌∷◌, ◌++◌, length};
 ghost use Rattle.star_io.specs.Bytes.{AreBytes};
+ghost use Rattle.star_io.specs.RecordLists.{stream_records, rest_after, stream_of, whole, AreShort, HasMoreThan};
 ghost use Rattle.star_io.specs.Records.{AreRecords, BeginAll, Begins, HasOneList};
 ghost use Rattle.star_io.specs.declared.record.Record.{Record};
+ghost use Rattle.star_io.specs.declared.record.TheConstants.{MAX_RECORD_BYTES, MAX_RECORDS};
 
 /// Each list of bytes is the spelling of one list of records, and of no other.
 pub fn one_list()
@@ -36,4 +38,39 @@ pub fn begin_more()
     ensures { (front : List Record) (next : Record) (bytes middle rest : List ℕ) →
         BeginAll front bytes middle → Begins next middle rest →
         BeginAll (front ++ next ∷ []) bytes rest }
+{}
+
+/// The function gives the one list of records of which the bytes are the spelling.
+#[tactic(auto, using(crate::proofs::RecordListLaws::only_records, crate::proofs::RecordListLaws::are_stream_records))]
+pub fn records_by_function()
+    ensures { (bytes : List ℕ) (records : List Record) → AreBytes bytes →
+        AreRecords records bytes ↔ (records ≡ stream_records bytes) }
+{}
+
+/// What follows the first records is what the function gives.
+#[tactic(auto, using(crate::proofs::RecordListLaws::rest_is))]
+pub fn rest_by_function()
+    ensures { (records : List Record) (bytes rest : List ℕ) →
+        BeginAll records bytes rest → rest_after (length records) bytes ≡ rest }
+{}
+
+/// Bytes have more records than a number, or more bytes behind as many, exactly where something
+/// follows as many first records.
+#[tactic(auto, using(crate::proofs::RecordListLaws::more_follows, crate::proofs::RecordListLaws::follows_more))]
+pub fn more_by_function()
+    ensures { (n : ℕ) (bytes : List ℕ) → AreBytes bytes →
+        HasMoreThan n bytes ↔ (0 < length (rest_after n bytes)) }
+{}
+
+/// Whole records are spelled by their stream, and by nothing else.
+#[tactic(auto, using(crate::proofs::RecordListLaws::only_stream, crate::proofs::RecordListLaws::are_stream))]
+pub fn one_stream()
+    ensures { (bodies : List (List ℕ)) (bytes : List ℕ) → AreShort bodies →
+        AreRecords (whole bodies) bytes ↔ (bytes ≡ stream_of bodies) }
+{}
+
+/// The limits in plain numbers.
+pub fn limits()
+    ensures record_bytes { MAX_RECORD_BYTES ≡ 8192 }
+    ensures records { MAX_RECORDS ≡ 131072 }
 {}

@@ -1,10 +1,11 @@
 ghost use Rattle.std.specs.Prelude.{◌≡◌, [], Some, IfOk};
 ghost use Rattle.star_io.specs.Faults.{HasCause};
-ghost use Rattle.star_io.specs.Page.{named, PutsOnPage};
+ghost use Rattle.star_io.specs.MemorySink.{named, PutsInMemory};
 ghost use Rattle.star_io.specs.Told.{Tells};
 
+use crate::failed::Failed;
 use crate::no_memory::NoMemory;
-use crate::outside::{Failed, Sink};
+use crate::sink::Sink;
 use std::alloc::Global;
 use std::marker::Model;
 
@@ -29,9 +30,9 @@ pub struct MemorySink {
 
 impl Model for MemorySink {
     ghost use Rattle.std.specs.Prelude.{◌≤◌, vec_len, vec_capacity};
-    ghost use Rattle.star_io.specs.Page.{Page};
+    ghost use Rattle.star_io.specs.MemorySink.{SinkState};
 
-    ghost Value = { Page };
+    ghost Value = { SinkState };
 
     ghost view = { λ s. record {
       told = s.told.items;
@@ -80,7 +81,7 @@ impl Sink for MemorySink {
     fn put(&mut self, piece: &[u8]) -> Result<(), Failed>
         ensures bytes { Tells (Some self.old.told) (Some self.new.told) piece.now result }
         ensures cause { HasCause self.old.faults self.new.faults result }
-        ensures page { PutsOnPage self.old self.new piece.now result }
+        ensures memory { PutsInMemory self.old self.new piece.now result }
     {
         let call = self.calls;
         self.calls = call.saturating_add(1);

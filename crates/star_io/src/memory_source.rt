@@ -2,9 +2,10 @@ ghost use Rattle.std.specs.Prelude.{◌≡◌, length, max, slice_index_or, Some
 ghost use Rattle.std.specs.Io.{ReadsAtMost};
 ghost use Rattle.std.specs.Io.KnownBytes.{ReadConsumes};
 ghost use Rattle.star_io.specs.Faults.{HasCause};
-ghost use Rattle.star_io.specs.Tape.{faults_of, fails_at, TakesFromTape};
+ghost use Rattle.star_io.specs.MemorySource.{faults_of, fails_at, TakesFromMemory};
 
-use crate::outside::{Failed, Source};
+use crate::failed::Failed;
+use crate::source::Source;
 use std::marker::Model;
 
 /// A source over bytes in memory, whose takes are cut and fail where it is told so.
@@ -22,9 +23,9 @@ pub struct MemorySource {
 
 impl Model for MemorySource {
     ghost use Rattle.std.specs.Prelude.{◌≤◌, length, drop};
-    ghost use Rattle.star_io.specs.Tape.{Tape};
+    ghost use Rattle.star_io.specs.MemorySource.{SourceState};
 
-    ghost Value = { Tape };
+    ghost Value = { SourceState };
 
     ghost view = { λ s. record {
       left = drop s.at s.bytes.items;
@@ -80,7 +81,7 @@ impl Source for MemorySource {
         ensures bytes { ReadConsumes (Some self.old.left) (Some self.new.left) result into.new }
         ensures cause { HasCause (faults_of self.old.fails self.old.calls)
             (faults_of self.new.fails self.new.calls) result }
-        ensures tape { TakesFromTape self.old self.new (length into.new) result }
+        ensures memory { TakesFromMemory self.old self.new (length into.new) result }
     {
         let call = self.calls;
         let fails = is_failing(&self.fails, call);

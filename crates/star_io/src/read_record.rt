@@ -5,10 +5,10 @@ ghost use Rattle.star_io.specs.Faults.{Rose};
 ghost use Rattle.star_io.specs.Reading.{TakesRecord, Continues};
 
 use crate::bytes::Bytes;
-use crate::outside::Source;
+use crate::filling::{fill, skip};
 use crate::reader::NextError;
-use crate::record::{MAX_RECORD, Record};
-use crate::takes::{fill, skip};
+use crate::record::{MAX_RECORD_BYTES, Record};
+use crate::source::Source;
 use std::alloc::Global;
 
 // The next record, or none at the end.
@@ -48,7 +48,7 @@ fn read_body<S: Source>(alloc: Global, source: &mut S, said: u32) -> Result<Reco
         Rose (S.faults source.old) (S.faults source.new) }
     ensures later { S.faults source.old ≤ S.faults source.new }
 {
-    if said > MAX_RECORD {
+    if said > MAX_RECORD_BYTES {
         drop_body(source, said)
     } else {
         keep_body(alloc, source, said)
@@ -57,7 +57,7 @@ fn read_body<S: Source>(alloc: Global, source: &mut S, said: u32) -> Result<Reco
 
 // The same of a record that is kept.
 fn keep_body<S: Source>(alloc: Global, source: &mut S, said: u32) -> Result<Record, NextError>
-    requires { said ≤ MAX_RECORD }
+    requires { said ≤ MAX_RECORD_BYTES }
     ensures next { IfOk result (Continues said (S.left source.old) (S.left source.new)) }
     ensures read { IsErrOf result NextError.Read →
         Rose (S.faults source.old) (S.faults source.new) }
@@ -76,7 +76,7 @@ fn keep_body<S: Source>(alloc: Global, source: &mut S, said: u32) -> Result<Reco
 
 // The same of a record that is too long.
 fn drop_body<S: Source>(source: &mut S, said: u32) -> Result<Record, NextError>
-    requires { MAX_RECORD < said }
+    requires { MAX_RECORD_BYTES < said }
     ensures next { IfOk result (Continues said (S.left source.old) (S.left source.new)) }
     ensures read { IsErrOf result NextError.Read →
         Rose (S.faults source.old) (S.faults source.new) }

@@ -6,9 +6,10 @@ ghost use Rattle.star_io.specs.declared.reader.NextError.TheVariants.{Read, NoMe
 ghost use Rattle.star_io.specs.declared.reader.ReaderState.TheVariants.{Ready};
 ghost use Rattle.star_io.specs.declared.record.Record.{Record};
 
-use crate::outside::{Failed, Source};
+use crate::failed::Failed;
 use crate::read_record::read_record;
 use crate::record::Record;
+use crate::source::Source;
 use std::alloc::{AllocError, Global};
 use std::marker::Model;
 use thiserror::Error;

@@ -1,14 +1,17 @@
 use crate::bytes::Bytes;
 
 /// The length of the longest record that is kept, in bytes.
-pub const MAX_RECORD: u32 = 4096;
+pub const MAX_RECORD_BYTES: u32 = 8192;
+
+/// The most records of a stream that is read whole.
+pub const MAX_RECORDS: usize = 131_072;
 
 /// What stands at one place of a stream.
 ///
 /// A record is its length in four bytes, most significant first, and then that many bytes.
 #[derive(Debug, Drop, PartialEq, Eq)]
 pub enum Record {
-    /// The bytes of a record of at most [`MAX_RECORD`] bytes, without its length.
+    /// The bytes of a record of at most [`MAX_RECORD_BYTES`] bytes, without its length.
     Whole(Bytes),
     /// A longer record, whose `said` bytes were dropped.
     TooLong { said: u32 },

@@ -5,7 +5,9 @@ ghost use Rattle.std.specs.Io.KnownBytes.{ReadConsumes};
 ghost use Rattle.star_io.specs.Faults.{CountsFault, HasCause};
 ghost use Rattle.star_io.specs.Told.{Tells};
 
-use crate::outside::{Failed, Sink, Source};
+use crate::failed::Failed;
+use crate::sink::Sink;
+use crate::source::Source;
 use std::io::{Read, Write};
 use std::marker::Model;
 
@@ -19,9 +21,9 @@ pub struct StdSource<R: Read> {
 }
 
 impl<R: Read> Model for StdSource<R> {
-    ghost use Rattle.star_io.specs.Adapter.{Adapter};
+    ghost use Rattle.star_io.specs.StdAdapter.{StdAdapter};
 
-    ghost Value = { Adapter };
+    ghost Value = { StdAdapter };
 
     ghost view = { λ s. record { tells = R.remaining s.inner; faults = s.faults } };
 }
@@ -67,9 +69,9 @@ pub struct StdSink<W: Write> {
 }
 
 impl<W: Write> Model for StdSink<W> {
-    ghost use Rattle.star_io.specs.Adapter.{Adapter};
+    ghost use Rattle.star_io.specs.StdAdapter.{StdAdapter};
 
-    ghost Value = { Adapter };
+    ghost Value = { StdAdapter };
 
     ghost view = { λ s. record { tells = W.contents s.inner; faults = s.faults } };
 }

@@ -1,6 +1,8 @@
+ghost use Rattle.std.specs.Prelude.{◌<◌};
+
 use crate::{
-    Bytes, FailAt, Failed, MAX_RECORD, MemorySink, MemorySource, NextError, NoMemory, ReaderState,
-    Record, RecordReader, Sink, Source, StdSink, StdSource,
+    Bytes, FailAt, Failed, InputError, MemorySink, MemorySource, NextError, NoMemory, ReaderState,
+    Record, RecordReader, Sink, Source, StdSink, StdSource, read_bytes, read_records,
 };
 use std::alloc::Global;
 use std::io;
@@ -35,12 +37,12 @@ fn a_stream_gives_its_records_however_it_is_cut(rt: HostRuntime) -> Result<(), F
         ),
         (b"\0\0\0\0", 0, b"", "[Whole(Bytes { items: [] })]"),
         (
-            b"\0\0\0\x01a\0\0\x13\x88",
-            5000,
+            b"\0\0\0\x01a\0\0\x23\x28",
+            9000,
             b"\0\0\0\x01b",
-            "[Whole(Bytes { items: [97] }), TooLong { said: 5000 }, Whole(Bytes { items: [98] })]",
+            "[Whole(Bytes { items: [97] }), TooLong { said: 9000 }, Whole(Bytes { items: [98] })]",
         ),
-        (b"\0\0\x10\x01", 4097, b"", "[TooLong { said: 4097 }]"),
+        (b"\0\0\x20\x01", 8193, b"", "[TooLong { said: 8193 }]"),
         (
             b"\xff\xff\xff\xff",
             5,
@@ -56,7 +58,7 @@ fn a_stream_gives_its_records_however_it_is_cut(rt: HostRuntime) -> Result<(), F
         ),
     ];
     for (front, zeros, back, want) in table {
-        for cuts in [0, 6000] {
+        for cuts in [0, 10_000] {
             let mut stream = Vec::from_slice(alloc, front)?;
             stream.extend_from_slice(vec![in alloc; 0u8; zeros]?.as_slice())?;
             stream.extend_from_slice(back)?;
@@ -73,13 +75,12 @@ fn a_stream_gives_its_records_however_it_is_cut(rt: HostRuntime) -> Result<(), F
 #[test]
 fn the_longest_record_is_whole(rt: HostRuntime) -> Result<(), Fail> {
     let alloc = rt.alloc();
-    let body = vec![in alloc; 7u8; 4096]?;
-    let mut stream = Vec::from_slice(alloc, b"\0\0\x10\0")?;
+    let body = vec![in alloc; 7u8; 8192]?;
+    let mut stream = Vec::from_slice(alloc, b"\0\0\x20\0")?;
     stream.extend_from_slice(body.as_slice())?;
     let mut source = MemorySource::new(stream, Vec::new(alloc), Vec::new(alloc));
     let found = RecordReader::default().next(alloc, &mut source)?;
     assert!(rt; found == Some(Record::Whole(Bytes::of(alloc, body.as_slice())?)));
-    assert_eq!(rt; MAX_RECORD, 4096);
     Ok(())
 }
 
@@ -87,7 +88,7 @@ fn the_longest_record_is_whole(rt: HostRuntime) -> Result<(), Fail> {
 #[test]
 fn a_read_that_fails_in_a_record_breaks_the_reader(rt: HostRuntime) -> Result<(), Fail> {
     let alloc = rt.alloc();
-    for (stream, left) in [(b"\0\0\0\x03abc", b"abc"), (b"\0\0\x13\x88abc", b"abc")] {
+    for (stream, left) in [(b"\0\0\0\x03abc", b"abc"), (b"\0\0\x23\x28abc", b"abc")] {
         let cuts = vec![in alloc; 4]?;
         let fails = vec![in alloc; 1]?;
         let mut source = MemorySource::new(Vec::from_slice(alloc, stream)?, cuts, fails);
@@ -96,6 +97,70 @@ fn a_read_that_fails_in_a_record_breaks_the_reader(rt: HostRuntime) -> Result<()
         assert_eq!(rt; reader.state(), ReaderState::Broken);
         assert_eq!(rt; source.left(), left.as_slice());
         assert_eq!(rt; source.calls(), 2);
+    }
+    Ok(())
+}
+
+// What comes of reading 100,000 bytes with this limit, and how many bytes are left then.
+fn read_with_limit(
+    alloc: Global,
+    limit: usize,
+    cuts: usize,
+) -> Result<(Result<usize, InputError>, usize), Fail>
+    requires { limit < usize.MAX }
+{
+    let bytes = vec![in alloc; 7u8; 100_000]?;
+    let mut source = MemorySource::new(bytes, vec![in alloc; 1; cuts]?, Vec::new(alloc));
+    let found = read_bytes(alloc, &mut source, limit);
+    Ok((found.map(|bytes| bytes.len()), source.left().len()))
+}
+
+#[test]
+fn an_input_is_read_whole_up_to_its_limit(rt: HostRuntime) -> Result<(), Fail> {
+    let alloc = rt.alloc();
+    let whole = (Ok(100_000), 0);
+    assert_eq!(rt; read_with_limit(alloc, 100_000, 0)?, whole);
+    assert_eq!(rt;
+        read_with_limit(alloc, 100_000, 200_000)?,
+        whole,
+        "one byte at a time"
+    );
+    let too_many = Err(InputError::TooMany);
+    assert_eq!(rt; read_with_limit(alloc, 99_999, 0)?, (too_many, 0));
+    assert_eq!(rt;
+        read_with_limit(alloc, 70_000, 200_000)?,
+        (too_many, 29_999)
+    );
+    assert_eq!(rt; read_with_limit(alloc, 0, 0)?, (too_many, 99_999));
+    Ok(())
+}
+
+#[test]
+fn a_stream_is_read_whole(rt: HostRuntime) -> Result<(), Fail> {
+    let alloc = rt.alloc();
+    let stream = b"\0\0\0\x01a\0\0\0\0\0";
+    let mut source = StdSource::new(stream.as_slice());
+    let records = read_records(alloc, &mut source)?;
+    let text = format!(in alloc; "{records:?}")?;
+    assert_eq!(rt;
+        text.as_str(),
+        "[Whole(Bytes { items: [97] }), Whole(Bytes { items: [] }), CutLength { have: 1 }]"
+    );
+    Ok(())
+}
+
+// The reads before a failed one are no end of the input.
+#[test]
+fn a_failed_read_ends_no_input(rt: HostRuntime) -> Result<(), Fail> {
+    let alloc = rt.alloc();
+    for call in 0..3 {
+        let stream = Vec::from_slice(alloc, b"\0\0\0\x01a\0\0\0\0")?;
+        let mut source = MemorySource::new(stream, vec![in alloc; 5]?, vec![in alloc; call]?);
+        assert!(rt; read_records(alloc, &mut source) == Err(InputError::Read));
+
+        let bytes = Vec::from_slice(alloc, b"abcdefg")?;
+        let mut source = MemorySource::new(bytes, vec![in alloc; 5]?, vec![in alloc; call]?);
+        assert!(rt; read_bytes(alloc, &mut source, 7) == Err(InputError::Read));
     }
     Ok(())
 }
@@ -209,13 +274,17 @@ fn faults_of_std_are_passed_on(rt: HostRuntime) -> Result<(), Fail> {
 fn errors_have_texts(rt: HostRuntime) -> Result<(), Fail> {
     let alloc = rt.alloc();
     let text = format!(in alloc;
-        "{NoMemory}, {Failed}, {}, {}",
+        "{NoMemory}, {Failed}, {}, {}, {}, {}, {}",
         NextError::Read,
-        NextError::NoMemory
+        NextError::NoMemory,
+        InputError::Read,
+        InputError::TooMany,
+        InputError::NoMemory
     )?;
     assert_eq!(rt;
         text.as_str(),
-        "out of memory, a read or a write failed, a read failed, out of memory"
+        "out of memory, a read or a write failed, a read failed, out of memory, \
+         a read failed, the input is too long, out of memory"
     );
     Ok(())
 }

@@ -4,7 +4,7 @@ use Rattle.std.specs.List.{list_any}
 use Rattle.star_io.specs.Faults.{count_after}
 
 -- the bytes left, where takes are cut, the calls that fail, and the number of calls so far
-pub record Tape : Type 0 where
+pub record SourceState : Type 0 where
   pub left : List ℕ
   pub cuts : List ℕ
   pub fails : List ℕ
@@ -20,11 +20,11 @@ faults_of fails zero = 0
 faults_of fails (suc c) = faults_of fails c + (if fails_at fails c then 1 else 0)
 
 -- how many bytes a call gives that doesn't fail
-abbrev pub given : Tape → ℕ → ℕ
-given tape room = min (min (max 1 (slice_index_or tape.cuts tape.calls room)) room) (length tape.left)
+abbrev pub given : SourceState → ℕ → ℕ
+given state room = min (min (max 1 (slice_index_or state.cuts state.calls room)) room) (length state.left)
 
 -- one take, beside what every source does
-pub record TakesFromTape {E : Type 0} (old new : Tape) (room : ℕ) (result : Result ℕ E) : Type 0 where
+pub record TakesFromMemory {E : Type 0} (old new : SourceState) (room : ℕ) (result : Result ℕ E) : Type 0 where
   pub fails : IsErr result ↔ IsTrue (fails_at old.fails old.calls)
   pub count : IfOk result (λ n. n ≡ given old room)
   pub calls : new.calls ≡ count_after old.calls

@@ -2,6 +2,6 @@
 use Rattle.std.specs.Prelude.{ℕ, List, Option}
 
 -- the bytes that the other object tells, and the count of its faults
-pub record Adapter : Type 0 where
+pub record StdAdapter : Type 0 where
   pub tells : Option (List ℕ)
   pub faults : ℕ

@@ -4,7 +4,8 @@ ghost use Rattle.std.specs.Io.{ReadsAtMost};
 ghost use Rattle.std.specs.Io.KnownBytes.{Consumes, IsAtEnd};
 ghost use Rattle.star_io.specs.Faults.{HasCause};
 
-use crate::outside::{Failed, Source};
+use crate::failed::Failed;
+use crate::source::Source;
 
 /// Fills a slice, or as much of it as there are bytes for, and says how much.
 ///

@@ -1,16 +1,9 @@
-// What is handed in: where bytes come from, and where they go.
 ghost use Rattle.std.specs.Prelude.{Option, List, ℕ};
 ghost use Rattle.std.specs.Io.{ReadsAtMost};
 ghost use Rattle.std.specs.Io.KnownBytes.{ReadConsumes};
 ghost use Rattle.star_io.specs.Faults.{HasCause};
-ghost use Rattle.star_io.specs.Told.{Tells};
 
-use thiserror::Error;
-
-/// A read or a write failed, and the source or sink has counted it.
-#[derive(Clone, Copy, Debug, PartialEq, Eq, Error)]
-#[error("a read or a write failed")]
-pub struct Failed;
+use crate::failed::Failed;
 
 /// Where bytes come from.
 ///
@@ -29,21 +22,5 @@ pub trait Source {
     fn take(&mut self, into: &mut [u8]) -> Result<usize, Failed>
         ensures bound { ReadsAtMost result into.new }
         ensures bytes { ReadConsumes (left self.old) (left self.new) result into.new }
-        ensures cause { HasCause (faults self.old) (faults self.new) result };
-}
-
-/// Where bytes go.
-///
-/// Its count of faults is as that of a [`Source`].
-pub trait Sink {
-    /// The bytes that the sink was told so far, where it tells them.
-    ghost told: { Self → Option (List ℕ) };
-
-    /// The count of faults.
-    ghost faults: { Self → ℕ };
-
-    /// Tells the whole piece. An `Err` tells a front of it, which may be empty.
-    fn put(&mut self, piece: &[u8]) -> Result<(), Failed>
-        ensures bytes { Tells (told self.old) (told self.new) piece.now result }
         ensures cause { HasCause (faults self.old) (faults self.new) result };
 }

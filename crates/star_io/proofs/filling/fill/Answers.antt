@@ -1,7 +1,7 @@
 use Rattle.std.proofs.Common.{◌-◌, List, ℕ, length, take, subst, arith, rules}
 use Rattle.std.specs.Io.KnownBytes.{Consumes}
 use Rattle.star_io.proofs.KnownBytes.{consumes_more, take_written}
-use Rattle.star_io.proofs.takes.fill.Goals as goal
+use Rattle.star_io.proofs.filling.fill.Goals as goal
 
 pub loop-filled-preserved : goal.loop-filled-preserved
 loop-filled-preserved g c =

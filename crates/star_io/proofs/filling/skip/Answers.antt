@@ -1,7 +1,7 @@
 use Rattle.std.proofs.Common.{◌≡◌, ◌++◌, length, take, arith, rules, length-append}
 use Rattle.std.proofs.lemmas.List.{length-take-le}
 use Rattle.star_io.proofs.KnownBytes.{consumes_more}
-use Rattle.star_io.proofs.takes.skip.Goals as goal
+use Rattle.star_io.proofs.filling.skip.Goals as goal
 
 pub loop-skipped-preserved : goal.loop-skipped-preserved
 loop-skipped-preserved g c =
