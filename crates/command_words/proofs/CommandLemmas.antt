@@ -1,53 +1,34 @@
 -- The command of words, by their verb.
-use Rattle.std.proofs.Common.{◌≡◌, ◌≢◌, ◌∙◌, ℕ, false, List, [], ◌∷◌, codes, Option, Some, None, option_and_then, Result, Ok, Err, IfOk, inl, inr, refl, sym, subst}
+use Rattle.std.proofs.Common.{◌≡◌, ◌∙◌, ℕ, List, [], ◌∷◌, codes, Option, Some, None, option_and_then, Result, Ok, Err, IfOk, refl, sym, ap, subst}
 use Rattle.std.specs.Option.{ok_or, option_map_or}
 use Rattle.std.specs.Prelude.{◌-◌, ◌^◌, option_map}
-use Rattle.std.specs.Str.{bytes_eq}
-use Rattle.std.proofs.lemmas.Bool.{cases_Bool}
 use Rattle.std.proofs.lemmas.Result.{IfOk-weaker}
-use Rattle.std.proofs.lemmas.Slice.Eq.{bytes_eq-Decides}
 use Rattle.command_words.specs.Numbers.{number_in}
-use Rattle.command_words.specs.Options.{Text, Pair, options_of, value_of}
+use Rattle.command_words.specs.Options.{Text, Pair, value_of}
 use Rattle.command_words.specs.Seed.{seed_of}
 use Rattle.command_words.specs.Thresholds.{thresholds_of}
-use Rattle.command_words.specs.Words.{HasThresholds, alone, command_of, make_by, make_names, make_of}
+use Rattle.command_words.specs.Make.{make_by, make_of}
+use Rattle.command_words.specs.Verb.{verb_of, command_by}
+use Rattle.command_words.specs.Words.{HasThresholds, command_of, command_with}
 use Rattle.command_words.specs.declared.command.Command.{Command}
-use Rattle.command_words.specs.declared.command.Command.TheVariants.{Check, Make, SelfTest}
+use Rattle.command_words.specs.declared.command.Command.TheVariants.{Make}
+use Rattle.command_words.specs.declared.verb.Verb.{Verb}
+use Rattle.command_words.specs.declared.verb.Verb.TheVariants as verb
 use Rattle.command_words.specs.declared.command.WordsError.{WordsError}
 use Rattle.command_words.specs.declared.command.WordsError.TheVariants.{Usage}
 use Rattle.command_words.proofs.ThresholdLemmas.{thresholds_of-good}
 
 -- ---- each verb
 
-module _ (verb : Text) (words : List Text) where
-  -- `check` stands alone
-  pub command_of-check : verb ≡ codes "check" → command_of (verb ∷ words) ≡ alone Check words
-  unfolding command_of
-  command_of-check is = rw is refl
+-- the command of a word that is a verb
+pub command_of-verb : (word : Text) (words : List Text) (verb : Verb) → verb_of word ≡ Some verb → command_of (word ∷ words) ≡ command_with verb words
+unfolding command_of
+command_of-verb word words verb is = ap (option_and_then (λ v. command_with v words)) is
 
-  -- and so does `selftest`
-  pub command_of-selftest : verb ≡ codes "selftest" → command_of (verb ∷ words) ≡ alone SelfTest words
-  unfolding command_of
-  command_of-selftest is = rw is refl
-
-  -- `make` has options
-  pub command_of-make : verb ≡ codes "make" → command_of (verb ∷ words) ≡ option_and_then make_of (options_of make_names words)
-  unfolding command_of
-  command_of-make is = rw is refl
-
-  -- the test of another name fails
-  not-verb : (name : Text) → verb ≢ name → bytes_eq verb name ≡ false
-  not-verb name other =
-      elim (cases_Bool (bytes_eq verb name)) [
-        | inl e ↦ absurd (other ((bytes_eq-Decides verb name).0 e))
-        | inr e ↦ e
-      ]
-
-  -- and no other word is a verb
-  pub command_of-other : verb ≢ codes "check" → verb ≢ codes "selftest" → verb ≢ codes "make" → command_of (verb ∷ words) ≡ None
-  unfolding command_of
-  command_of-other check selftest make =
-      rw (not-verb (codes "check") check, not-verb (codes "selftest") selftest, not-verb (codes "make") make) refl
+-- and of one that is none
+pub command_of-other : (word : Text) (words : List Text) → verb_of word ≡ None → command_of (word ∷ words) ≡ None
+unfolding command_of
+command_of-other word words is = ap (option_and_then (λ v. command_with v words)) is
 
 -- no words are no command
 pub command_of-none : command_of [] ≡ None
@@ -90,8 +71,15 @@ make_of-good options command is =
     go (Some epoch) None seed command is = cc is
     go (Some epoch) (Some text) seed command is = made epoch text (thresholds_of text) seed command refl is
 
+-- options of a verb do
+verb-good : (verb : Verb) (options : List Pair) (command : Command) → command_by verb options ≡ Some command → HasThresholds command
+verb-good verb.Make options command is = make_of-good options command is
+verb-good other options (Make epoch thresholds seed) is = cc is
+verb-good other options command is = tt
+
 -- and so does an answer
-pub make-thresholds : (options : Option (List Pair)) (answer : Result Command WordsError) → IfOk answer (λ command. option_and_then make_of options ≡ Some command)
-    → IfOk answer HasThresholds
-make-thresholds None answer given = IfOk-weaker answer (λ command. None ≡ Some command) HasThresholds (λ command is. cc is) given
-make-thresholds (Some options) answer given = IfOk-weaker answer (λ command. make_of options ≡ Some command) HasThresholds (λ command is. make_of-good options command is) given
+pub answer-thresholds : (verb : Verb) (options : Option (List Pair)) (answer : Result Command WordsError)
+    → IfOk answer (λ command. option_and_then (λ o. command_by verb o) options ≡ Some command) → IfOk answer HasThresholds
+answer-thresholds verb None answer given = IfOk-weaker answer (λ command. None ≡ Some command) HasThresholds (λ command is. cc is) given
+answer-thresholds verb (Some options) answer given =
+    IfOk-weaker answer (λ command. command_by verb options ≡ Some command) HasThresholds (λ command is. verb-good verb options command is) given

@@ -1,11 +1,12 @@
 // What the words of the command line ask for.
-ghost use Rattle.std.specs.Prelude.{◌≡◌, ◌∷◌, None, Some, Err, IfOk, ok_or};
+ghost use Rattle.std.specs.Prelude.{◌≡◌, ◌∷◌, None, Some, Err, IfOk};
 ghost use Rattle.command_words.specs.Options.{texts_of};
-ghost use Rattle.command_words.specs.Words.{alone, command_of, HasThresholds};
+ghost use Rattle.command_words.specs.Words.{command_with, command_of, HasThresholds};
 ghost use Rattle.command_words.specs.declared.command.WordsError.TheVariants.{NoMemory};
 
-use crate::make::read_make;
+use crate::options::Options;
 use crate::thresholds::Thresholds;
+use crate::verb::Verb;
 use crate::words::Words;
 use std::alloc::{AllocError, Global};
 
@@ -56,28 +57,32 @@ pub fn words_of(alloc: Global, words: &Words) -> Result<Command, WordsError>
 }
 
 // The command of a verb and the words after it.
-fn read_verb(alloc: Global, verb: &str, words: &[&str]) -> Result<Command, WordsError>
+fn read_verb(alloc: Global, word: &str, words: &[&str]) -> Result<Command, WordsError>
     ensures command { IfOk result (λ command.
-        command_of (verb.now ∷ texts_of words.now) ≡ Some command) }
+        command_of (word.now ∷ texts_of words.now) ≡ Some command) }
     ensures thresholds { IfOk result HasThresholds }
     ensures usage { result ≡ Err WordsError.Usage
-        → command_of (verb.now ∷ texts_of words.now) ≡ None }
+        → command_of (word.now ∷ texts_of words.now) ≡ None }
 {
-    match verb {
-        "check" => alone(Command::Check, words),
-        "selftest" => alone(Command::SelfTest, words),
-        "make" => read_make(alloc, words),
-        _ => Err(WordsError::Usage),
+    match Verb::of(word) {
+        Some(verb) => read_options(alloc, verb, word, words),
+        None => Err(WordsError::Usage),
     }
 }
 
-// The command of a verb that takes no words.
-fn alone(command: Command, words: &[&str]) -> Result<Command, WordsError>
-    ensures { result ≡ ok_or (alone command (texts_of words.now)) WordsError.Usage }
+// The command of a verb by the options after it.
+fn read_options(
+    alloc: Global,
+    verb: Verb,
+    word: &str,
+    words: &[&str],
+) -> Result<Command, WordsError>
+    ensures command { IfOk result (λ command.
+        command_with verb (texts_of words.now) ≡ Some command) }
+    ensures thresholds { IfOk result HasThresholds }
+    ensures usage { result ≡ Err WordsError.Usage
+        → command_with verb (texts_of words.now) ≡ None }
 {
-    if words.is_empty() {
-        Ok(command)
-    } else {
-        Err(WordsError::Usage)
-    }
+    let options = Options::read(alloc, word, verb.names(), words)?;
+    verb.command(&options).ok_or(WordsError::Usage)
 }

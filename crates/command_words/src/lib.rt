@@ -7,6 +7,7 @@ mod numbers;
 mod options;
 mod seed;
 mod thresholds;
+mod verb;
 mod words;
 
 pub use command::{Command, WordsError, words_of};

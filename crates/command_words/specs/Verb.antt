@@ -1,0 +1,29 @@
+-- The verbs: the word of each, the names of its options, and the command that its options give.
+use Rattle.std.specs.Prelude.{List, [], codes, Option, Some, None, if◌then◌else◌}
+use Rattle.std.specs.Str.{bytes_eq}
+use Rattle.command_words.specs.Options.{Text, Pair}
+use Rattle.command_words.specs.Make.{make_names, make_of}
+use Rattle.command_words.specs.declared.command.Command.{Command}
+use Rattle.command_words.specs.declared.command.Command.TheVariants as command
+use Rattle.command_words.specs.declared.verb.Verb.{Verb}
+use Rattle.command_words.specs.declared.verb.Verb.TheVariants.{Check, Make, SelfTest}
+
+-- the verb of a word
+abbrev pub verb_of : Text → Option Verb
+verb_of word =
+    if bytes_eq word (codes "check") then Some Check
+    else if bytes_eq word (codes "make") then Some Make
+    else if bytes_eq word (codes "selftest") then Some SelfTest
+    else None
+
+-- the names of its options
+abbrev pub names_of : Verb → List Text
+names_of Check = []
+names_of Make = make_names
+names_of SelfTest = []
+
+-- the command that its options give
+abbrev pub command_by : Verb → List Pair → Option Command
+command_by Check options = Some command.Check
+command_by Make options = make_of options
+command_by SelfTest options = Some command.SelfTest
