@@ -5,7 +5,7 @@ use Rattle.std.proofs.lemmas.List.{append-nil}
 use Rattle.std.proofs.lemmas.List.Sums.{sum_by-append}
 use mir.Val.{bool_byte}
 use Rattle.star_io.specs.declared.record.Record.{Record}
-use Rattle.star_tool.specs.Text.{Finding, finding_of, line, lines_from, count_line, is_good, WritesLine, check_text_of}
+use Rattle.star_tool.specs.CheckText.{Finding, finding_of, line, lines_from, count_line, is_good, WritesLine, check_text_of}
 
 -- the text has the lines of these findings, and so many of them are good
 pub record Written (fs : List Finding) (good : ℕ) (text : List ℕ) : Type 0 where

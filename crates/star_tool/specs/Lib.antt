@@ -1,8 +1,10 @@
-pub mod Status
-pub mod Text
-pub mod Stream
-pub mod SelfTest
-pub mod Make
-pub mod Run
-pub mod Reasons
+pub mod BadPlace
+pub mod CheckText
+pub mod Coins
+pub mod Commands
 pub mod FileState
+pub mod Run
+pub mod Seen
+pub mod SelfTestText
+pub mod Status
+pub mod Verbs

@@ -1,117 +1,97 @@
--- What a run does with an input, coins and an output.
-use Rattle.std.specs.Prelude.{◌≡◌, ◌≢◌, ◌⊎◌, ℕ, ◌<◌, ◌≤◌, List, [], length, take, Option, Some, None, ⊤}
-use Rattle.std.specs.Io.KnownBytes.{Appends}
-use Rattle.star_io.specs.declared.record.Record.{Record}
+-- What a run does with an input, coins and an output, whatever its command is.
+use Rattle.std.specs.Prelude.{◌≡◌, ◌⊎◌, ◌&&◌, ℕ, List, [], length, Bool, true, false, nat_lt, MatchBool, Option, Some, None, Result, Ok, Err, ⊤, Vec, if◌then◌else◌}
+use Rattle.std.specs.declared.alloc.Global.{Global}
+use Rattle.std.specs.Bool.{OnTrue}
 use Rattle.star_io.specs.Faults.{Rose}
-use Rattle.star_io.specs.Records.{AreRecords}
-use Rattle.star_vectors.specs.Vectors.{vectors}
-use Rattle.star_vectors.specs.Comparison.{first_differing}
 use Rattle.command_words.specs.declared.command.Command.{Command}
-use Rattle.command_words.specs.declared.command.Command.TheVariants.{Check, Make, SelfTest}
-use Rattle.star_tool.specs.Text.{check_text_of}
-use Rattle.star_tool.specs.SelfTest.{self_test_text_of}
-use Rattle.star_tool.specs.Stream.{HasTooMany, LooksBehind}
-use Rattle.star_tool.specs.Make.{IsMade, TakesAll, TakesSeed, TakesFewCoins, TakesTooMuch, HasTooMuch, HasBadCell, IsTableText}
 use Rattle.command_words.specs.declared.seed.TheConstants.{SEED_BYTES}
+use Rattle.star_tool.specs.declared.status.Status.{Status}
+use Rattle.star_tool.specs.declared.status.Status.TheVariants.{Done, Usage, ReadFault, WriteFault, NoMemory, ShortCoins}
+use Rattle.star_tool.specs.Commands.{reads, draws, refusal_of, rest_of, output_of}
+use Rattle.star_tool.specs.Coins.{TakesSeed, TakesFewCoins, TakesCoins}
+use Rattle.star_tool.specs.Seen.{Seen}
 
--- ---- what is read, and what is made of it
+-- b holds, and P
+abbrev pub TrueAnd : Bool → Type 0 → Type 0
+TrueAnd b P = MatchBool b P (false ≡ true)
 
--- what a command reads of the input that is left: the self test reads nothing
-abbrev pub input_of : Command → Option (List ℕ) → Option (List ℕ)
-input_of Check left = left
-input_of (Make epoch thresholds given) left = left
-input_of SelfTest left = Some []
+-- ---- the input
 
--- what is left of the input when a command has read it
-abbrev pub rest_of : Command → Option (List ℕ) → Option (List ℕ)
-rest_of Check left = Some []
-rest_of (Make epoch thresholds given) left = Some []
-rest_of SelfTest left = left
+-- the input tells these bytes, where the command reads it; to a command that reads nothing it tells none
+abbrev pub Tells : Command → (input : Seen) → (bytes : List ℕ) → Type 0
+Tells command input bytes = MatchBool (reads command) (input.left ≡ Some bytes) (bytes ≡ [])
 
--- the seed of the command's reports, with the coins that are taken for it; where a command makes no report, none are taken
-abbrev pub HasSeed : Command → (coins coins_after : Option (List ℕ)) → (seed : List ℕ) → Type 0
-HasSeed Check coins coins_after seed = coins_after ≡ coins
-HasSeed (Make epoch thresholds given) coins coins_after seed = TakesSeed given coins coins_after seed
-HasSeed SelfTest coins coins_after seed = coins_after ≡ coins
+-- nothing refuses the bytes that the input tells, and all were read
+abbrev pub IsRead : Command → (input : Seen) → Type 0
+IsRead command input = (bytes : List ℕ) → Tells command input bytes
+    → (refusal_of command bytes ≡ None) × OnTrue (reads command) (input.left_after ≡ Some [])
 
--- the output of a command over these bytes, with this seed where it makes reports
-abbrev pub IsOutput : Command → (bytes seed text : List ℕ) → Type 0
-IsOutput Check bytes seed text = (HasTooMany bytes → ⊥) × ((records : List Record) × AreRecords records bytes × (text ≡ check_text_of records))
-IsOutput (Make epoch thresholds given) bytes seed text = IsMade bytes thresholds epoch seed text
-IsOutput SelfTest bytes seed text = (first_differing vectors ≡ None) × (text ≡ self_test_text_of (length vectors))
+-- this refuses the bytes that the input tells, and no more of them was taken than it needs
+abbrev pub IsRefused : Command → (input : Seen) → Status → Type 0
+IsRefused command input status = (bytes : List ℕ) → Tells command input bytes
+    → (refusal_of command bytes ≡ Some status) × OnTrue (reads command) (input.left_after ≡ Some (rest_of command bytes))
 
--- There is a command, and where its input tells its bytes, all of them were read and the text is its output.
-abbrev pub MakesOutput : Option Command → (left left_after coins coins_after : Option (List ℕ)) → (text : List ℕ) → Type 0
-MakesOutput None left left_after coins coins_after text = ⊥
-MakesOutput (Some command) left left_after coins coins_after text =
-    (bytes : List ℕ) → input_of command left ≡ Some bytes →
-    (left_after ≡ rest_of command left) × ((seed : List ℕ) × HasSeed command coins coins_after seed × IsOutput command bytes seed text)
+-- ---- the output
 
--- the output was made and wholly told
-abbrev pub IsDone : Option Command → (left left_after coins coins_after told told_after : Option (List ℕ)) → Type 0
-IsDone command left left_after coins coins_after told told_after =
-    (text : List ℕ) × MakesOutput command left left_after coins coins_after text × Appends told told_after text
+-- where the input tells its bytes, nothing refuses them, all were read, and the text is the command's output for them
+abbrev pub IsOutput : Command → (input coins : Seen) → (text : List ℕ) → Type 0
+IsOutput command input coins text = (bytes : List ℕ) → Tells command input bytes
+    → (refusal_of command bytes ≡ None) × OnTrue (reads command) (input.left_after ≡ Some [])
+    × ((drawn : List ℕ) × OnTrue (draws command) (TakesSeed coins drawn) × (text ≡ output_of command bytes drawn))
 
--- the output was made, isn't empty, and a front of it was told
-abbrev pub IsCutOff : Option Command → (left left_after coins coins_after told told_after : Option (List ℕ)) → Type 0
-IsCutOff command left left_after coins coins_after told told_after =
-    (text : List ℕ) × MakesOutput command left left_after coins coins_after text × (text ≢ []) × ((n : ℕ) × Appends told told_after (take n text))
+-- the same of a text that is held in memory
+abbrev pub Makes : Command → (input coins : Seen) → Vec ℕ Global → Type 0
+Makes command input coins text = IsOutput command input coins text.items
 
--- ---- what stands in the way
+-- ---- why there is none
 
--- the count of faults rose of the input, where the command reads it, or of the coins, where it takes them
-abbrev pub HasReadFault : Option Command → (input input_after coins coins_after : ℕ) → Type 0
-HasReadFault (Some Check) input input_after coins coins_after = Rose input input_after
-HasReadFault (Some (Make epoch thresholds None)) input input_after coins coins_after = Rose input input_after ⊎ Rose coins coins_after
-HasReadFault (Some (Make epoch thresholds (Some given))) input input_after coins coins_after = Rose input input_after
-HasReadFault _ input input_after coins coins_after = ⊥
+-- a read of the input failed, or one of the coins behind an input that was read and isn't refused
+abbrev pub HasReadFault : Command → (input coins : Seen) → Type 0
+HasReadFault command input coins =
+    TrueAnd (reads command) (Rose input.faults input.faults_after)
+    ⊎ TrueAnd (draws command) (IsRead command input × Rose coins.faults coins.faults_after)
 
--- more was taken of the input than the command reads
-abbrev pub ReadsTooMuch : Option Command → (left left_after : Option (List ℕ)) → Type 0
-ReadsTooMuch (Some Check) left left_after = LooksBehind left left_after
-ReadsTooMuch (Some (Make epoch thresholds given)) left left_after = TakesTooMuch left left_after
-ReadsTooMuch _ left left_after = ⊥
+-- the coins came to their end after so many bytes, which are too few, behind such an input
+abbrev pub EndsShort : Command → (input coins : Seen) → (have : ℕ) → Type 0
+EndsShort command input coins have = TrueAnd (draws command) (IsRead command input × TakesFewCoins coins have)
 
--- these bytes are more than the command reads
-abbrev pub IsTooMuch : Option Command → List ℕ → Type 0
-IsTooMuch (Some Check) bytes = HasTooMany bytes
-IsTooMuch (Some (Make epoch thresholds given)) bytes = HasTooMuch bytes
-IsTooMuch _ bytes = ⊥
+-- why a command ended with no output
+abbrev pub Reason : Command → (input coins : Seen) → Status → Type 0
+Reason command input coins ReadFault = HasReadFault command input coins
+Reason command input coins (ShortCoins have) = EndsShort command input coins have
+Reason command input coins NoMemory = ⊤
+Reason command input coins Done = ⊥
+Reason command input coins Usage = ⊥
+Reason command input coins WriteFault = ⊥
+Reason command input coins refusal = IsRefused command input refusal
 
--- the command reads a table, it isn't too much, and this is the first bad place of these bytes
-abbrev pub IsBadPlace : Option Command → List ℕ → (row column : ℕ) → Type 0
-IsBadPlace (Some (Make epoch thresholds given)) bytes row column = HasBadCell thresholds bytes row column
-IsBadPlace _ bytes row column = ⊥
+-- the status says why an input is refused, and nothing else
+abbrev pub is_refusal : Status → Bool
+is_refusal Done = false
+is_refusal Usage = false
+is_refusal ReadFault = false
+is_refusal WriteFault = false
+is_refusal NoMemory = false
+is_refusal (ShortCoins have) = false
+is_refusal status = true
 
--- the command makes reports, and no seed is given for them
-abbrev pub WantsCoins : Option Command → Type 0
-WantsCoins (Some (Make epoch thresholds None)) = ⊤
-WantsCoins _ = ⊥
+-- ---- the coins
 
--- it read a good table, and the coins came to their end after so many bytes, which are too few
-abbrev pub EndsShort : Option Command → (left left_after coins coins_after : Option (List ℕ)) → (have : ℕ) → Type 0
-EndsShort (Some (Make epoch thresholds None)) left left_after coins coins_after have =
-    TakesFewCoins coins coins_after have × ((bytes : List ℕ) × TakesAll left left_after bytes × IsTableText thresholds bytes)
-EndsShort _ left left_after coins coins_after have = ⊥
+-- how a run ends whose output was made, or wasn't
+abbrev pub ending : {T : Type 0} → Result T Status → Status
+ending (Ok text) = Done
+ending (Err status) = status
 
--- it has a good table, and the coins tell only so many bytes, which are too few
-abbrev pub HasTooFew : Option Command → (left coins : Option (List ℕ)) → (have : ℕ) → Type 0
-HasTooFew (Some (Make epoch thresholds None)) left coins have =
-    (bytes : List ℕ) × (left ≡ Some bytes) × IsTableText thresholds bytes
-    × ((drawn : List ℕ) × (coins ≡ Some drawn) × (length drawn ≡ have) × (have < SEED_BYTES))
-HasTooFew _ left coins have = ⊥
+-- a run whose coins were touched may end so: not by a refusal, nor by a failed read of the input
+abbrev pub MayFollowCoins : (coins : Seen) → Status → Type 0
+MayFollowCoins coins ReadFault = Rose coins.faults coins.faults_after
+MayFollowCoins coins status = MatchBool (is_refusal status) ⊥ ⊤
 
--- the command is the self test, and these are the number and the bytes of the first vector that differs
-abbrev pub IsBadVector : Option Command → (number : ℕ) → (got wanted : List ℕ) → Type 0
-IsBadVector (Some SelfTest) number got wanted = first_differing vectors ≡ Some (record { number = number; got = got; wanted = wanted })
-IsBadVector _ number got wanted = ⊥
+-- the command draws a seed, its input was read and isn't refused, and no more coins were taken than a seed has bytes
+abbrev pub Draws : Command → (input coins : Seen) → Status → Type 0
+Draws command input coins status =
+    TrueAnd (draws command) (IsRead command input × TakesCoins coins × MayFollowCoins coins status)
 
--- There is a command, and nothing that is told stands in its way: the input's bytes are good, there are coins enough where no
--- seed is given, and no vector differs.
-abbrev pub CanEnd : Option Command → (left coins : Option (List ℕ)) → Type 0
-CanEnd None left coins = ⊥
-CanEnd (Some Check) left coins = (bytes : List ℕ) × (left ≡ Some bytes) × (HasTooMany bytes → ⊥)
-CanEnd (Some (Make epoch thresholds None)) left coins =
-    (bytes : List ℕ) × (left ≡ Some bytes) × IsTableText thresholds bytes × ((drawn : List ℕ) × (coins ≡ Some drawn) × (SEED_BYTES ≤ length drawn))
-CanEnd (Some (Make epoch thresholds (Some given))) left coins = (bytes : List ℕ) × (left ≡ Some bytes) × IsTableText thresholds bytes
-CanEnd (Some SelfTest) left coins = first_differing vectors ≡ None
+-- how a command ends that isn't refused, where nothing fails and the coins tell these bytes
+abbrev pub end_of : Command → (coins : List ℕ) → Status
+end_of command coins = if draws command && nat_lt (length coins) SEED_BYTES then ShortCoins (length coins) else Done

@@ -1,24 +1,20 @@
 //! A tool for streams of reports.
 #![tactic(auto)]
 
-mod check;
+mod check_text;
+mod coins;
 mod file_source;
-mod input;
-mod make;
+pub mod laws;
 mod output;
 mod run;
-mod seed;
-mod self_test;
 mod self_test_text;
 mod status;
-mod stream;
-mod table_bytes;
-mod text;
+mod verbs;
 
+pub use check_text::check_text;
 pub use client_table::{TableError, read_table};
 pub use command_words::{Command, Thresholds, Words, WordsError, words_of};
 pub use file_source::FileSource;
-pub use input::InputError;
 use recovery_pool::NoGate;
 pub use run::run;
 pub use self_test_text::self_test_text;
@@ -30,9 +26,7 @@ use std::io::{self, BufReader, Read, Write};
 use std::process::ExitCode;
 use std::rt::Files;
 use std::thread::Threads;
-pub use stream::{MAX_RECORDS, read_records};
-pub use table_bytes::{MAX_TABLE_BYTES, read_table_bytes};
-pub use text::check_text;
+pub use verbs::make::MAX_TABLE_BYTES;
 
 /// Where the coins come from where no seed is given.
 const COINS: &str = "/dev/urandom";

@@ -1,6 +1,6 @@
 // The text of `selftest`.
 ghost use Rattle.std.specs.Prelude.{◌≡◌, ◌++◌, ◌+◌, IfOk, OnOk, string_bytes};
-ghost use Rattle.star_tool.specs.SelfTest.{self_test_text_of, ok_line, ok_count_line};
+ghost use Rattle.star_tool.specs.SelfTestText.{self_test_text_of, ok_line, ok_count_line};
 
 use star_io::NoMemory;
 use std::alloc::{AllocError, Global};

@@ -3,9 +3,9 @@ ghost use Rattle.std.specs.Prelude.{◌≡◌, ◌++◌, IfOk, codes};
 ghost use Rattle.std.specs.Fmt.{decimal};
 ghost use Rattle.star_tool.specs.Status.{number_of, line_of};
 
-use crate::input::InputError;
+use crate::verbs::{check, make, self_test};
 use client_table::TableError;
-use star_io::NoMemory;
+use star_io::{InputError, NoMemory};
 use star_vectors::SelfTestError;
 use std::alloc::Global;
 use std::fmt::Write;
@@ -128,8 +128,7 @@ pub fn status_line(alloc: Global, status: &Status) -> Result<Vec<u8>, NoMemory>
 {
     let line = match status {
         Status::Done => "",
-        Status::Usage =>
-            "usage: star_tool check | make --epoch E --thresholds K,.. [--seed HEX] | selftest\n",
+        Status::Usage => return usage_line(alloc),
         Status::ReadFault => "read fault\n",
         Status::WriteFault => "write fault\n",
         Status::TooMany => "too many\n",
@@ -140,6 +139,21 @@ pub fn status_line(alloc: Global, status: &Status) -> Result<Vec<u8>, NoMemory>
     };
     let bytes = Vec::from_slice(alloc, line.as_bytes())?;
     Ok(bytes)
+}
+
+// The verbs, and how each is written.
+fn usage_line(alloc: Global) -> Result<Vec<u8>, NoMemory>
+    ensures { IfOk result (λ line. line.items ≡ line_of Status.Usage) }
+{
+    let mut line = String::new(alloc);
+    write!(
+        line,
+        "usage: star_tool {} | {} | {}\n",
+        check::USAGE,
+        make::USAGE,
+        self_test::USAGE
+    )?;
+    Ok(line.into_bytes())
 }
 
 fn bad_table_line(alloc: Global, row: u32, column: u32) -> Result<Vec<u8>, NoMemory>

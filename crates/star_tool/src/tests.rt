@@ -1,6 +1,6 @@
-use crate::{Status, Words, run, status_line, status_number};
+use crate::{FileSource, Status, Words, run, status_line, status_number};
 use recovery_pool::NoGate;
-use star_io::{FailAt, MemorySink, MemorySource, NoMemory};
+use star_io::{FailAt, Failed, MemorySink, MemorySource, NoMemory, Source};
 use std::alloc::{AllocError, Global};
 use std::test::*;
 use std::thread::Threads;
@@ -64,7 +64,8 @@ fn status_of<R: Threads + Sync>(
     Ok(run(rt, alloc, &words, input, &mut coins, &NoGate, out))
 }
 
-// Whether `check` prints this text for a stream, also where every take is cut to one byte.
+// Whether `check` prints this text for a stream, also where every take is cut to one byte. A second
+// call of `put` would fail.
 fn prints<R: Threads + Sync>(
     rt: &R,
     alloc: Global,
@@ -72,10 +73,11 @@ fn prints<R: Threads + Sync>(
     wanted: &str,
 ) -> Result<bool, Fail> {
     let mut same = true;
-    for cuts in [0, 6000] {
+    for cuts in [0, 10_000] {
         let bytes = Vec::from_slice(alloc, stream.bytes.as_slice())?;
         let mut input = MemorySource::new(bytes, vec![in alloc; 1; cuts]?, Vec::new(alloc));
-        let mut out = MemorySink::new(alloc, 1000, Vec::new(alloc))?;
+        let second = vec![in alloc; FailAt { call: 1, after: 0 }]?;
+        let mut out = MemorySink::new(alloc, 1000, second)?;
         let status = status_of(rt, alloc, &["check"], &mut input, &mut out)?;
         same = same && status == Status::Done && out.told() == wanted.as_bytes();
     }
@@ -119,7 +121,7 @@ fn check_goes_on_behind_a_long_record_and_stops_at_a_cut_one(rt: HostRuntime) ->
     let good = Stream::new(alloc).record(139, &frame)?;
     let long = Stream::new(alloc)
         .record(139, &frame)?
-        .record(5000, &[0; 5000])?;
+        .record(9000, &[0; 9000])?;
     let cases = [
         (
             good.record(139, b"0123456789")?,
@@ -156,9 +158,9 @@ fn one_record_too_many_is_refused(rt: HostRuntime) -> Result<(), Fail> {
         (1, Status::TooMany, 0),
         (9, Status::TooMany, 8),
     ] {
-        let stream = vec![in alloc; 0; 4 * 65536 + extra]?;
+        let stream = vec![in alloc; 0; 4 * 131_072 + extra]?;
         let mut input = MemorySource::new(stream, Vec::new(alloc), Vec::new(alloc));
-        let mut out = MemorySink::new(alloc, 3_000_000, Vec::new(alloc))?;
+        let mut out = MemorySink::new(alloc, 4_000_000, Vec::new(alloc))?;
         assert_eq!(rt;
             status_of(&rt, alloc, &["check"], &mut input, &mut out)?,
             status
@@ -229,14 +231,17 @@ fn a_fault_of_reading_or_writing_is_told_apart(rt: HostRuntime) -> Result<(), Fa
     let alloc = rt.alloc();
     let frame = smallest_frame();
 
-    let stream = Stream::new(alloc).record(139, &frame)?;
-    let mut input = MemorySource::new(stream.bytes, Vec::new(alloc), vec![in alloc; 1; 1]?);
-    let mut out = MemorySink::new(alloc, 1000, Vec::new(alloc))?;
-    assert_eq!(rt;
-        status_of(&rt, alloc, &["check"], &mut input, &mut out)?,
-        Status::ReadFault
-    );
-    assert_eq!(rt; out.told().len(), 0);
+    // The length, the body, and the end behind it.
+    for call in 0..3 {
+        let stream = Stream::new(alloc).record(139, &frame)?;
+        let mut input = MemorySource::new(stream.bytes, Vec::new(alloc), vec![in alloc; call]?);
+        let mut out = MemorySink::new(alloc, 1000, Vec::new(alloc))?;
+        assert_eq!(rt;
+            status_of(&rt, alloc, &["check"], &mut input, &mut out)?,
+            Status::ReadFault
+        );
+        assert_eq!(rt; out.told().len(), 0);
+    }
 
     let mut fails = Vec::new(alloc);
     fails.push(FailAt { call: 0, after: 4 })?;
@@ -247,6 +252,19 @@ fn a_fault_of_reading_or_writing_is_told_apart(rt: HostRuntime) -> Result<(), Fa
         Status::WriteFault
     );
     assert_eq!(rt; out.told(), b"reco".as_slice());
+    Ok(())
+}
+
+#[test]
+fn a_file_is_opened_once_and_a_folder_has_no_bytes(rt: HostRuntime) -> Result<(), Fail> {
+    let mut into = [0; 4];
+    assert_eq!(rt; FileSource::new(&rt, "/").take(&mut into), Err(Failed));
+
+    let mut program = FileSource::new(&rt, "/proc/self/exe");
+    assert_eq!(rt; program.take(&mut into), Ok(4));
+    assert_eq!(rt; into, *b"\x7fELF");
+    assert_eq!(rt; program.take(&mut into), Ok(4));
+    assert_ne!(rt; into, *b"\x7fELF", "the bytes that follow");
     Ok(())
 }
 

@@ -1,5 +1,5 @@
 use Rattle.std.proofs.Common.{◌≡◌, ◌∙◌, ℕ, ◌+◌, List, ◌++◌, refl, ap, sym, rules, add-one}
-use Rattle.star_tool.specs.SelfTest.{ok_line, ok_lines}
+use Rattle.star_tool.specs.SelfTestText.{ok_line, ok_lines}
 use Rattle.star_tool.proofs.self_test_text.self_test_text.Goals as goal
 
 -- one vector more

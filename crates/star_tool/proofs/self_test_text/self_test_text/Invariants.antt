@@ -1,6 +1,6 @@
 use Rattle.std.proofs.Common.{◌≡◌}
 use Rattle.std.specs.Prelude.{string_bytes}
-use Rattle.star_tool.specs.SelfTest.{ok_lines}
+use Rattle.star_tool.specs.SelfTestText.{ok_lines}
 use Rattle.star_tool.proofs.self_test_text.self_test_text.Given as goal
 
 abbrev pub invariant-loop-number : goal.invariant-loop-number

@@ -1,0 +1,11 @@
+use Rattle.std.proofs.Common.{◌≡◌, ◌⊎◌, subst, sym}
+use Rattle.command_words.specs.declared.command.Command.{Command}
+use Rattle.star_tool.specs.Run.{Draws, ending}
+use Rattle.star_tool.specs.Seen.{seen}
+use Rattle.star_tool.proofs.run.answer_of.Goals as goal
+
+pub returns-in-Make-clause-coins : goal.returns-in-Make-clause-coins
+returns-in-Make-clause-coins g c =
+    let input = seen g.S.Source.left g.S.Source.faults c.args.input.now c.make_output.new.input in
+    let coins = seen g.C.Source.left g.C.Source.faults c.args.coins.now c.make_output.new.coins in
+    subst (λ (command : Command). (c.make_output.new.coins ≡ c.args.coins.now) ⊎ Draws command input coins (ending c.make_output.result)) (sym c.in-Make.is) c.make_output.ensures.coins

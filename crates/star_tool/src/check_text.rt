@@ -1,0 +1,121 @@
+// The text of `check`.
+ghost use Rattle.std.specs.Prelude.{◌≡◌, ◌≤◌, ◌++◌, length, IfOk, OnOk, string_bytes};
+ghost use Rattle.std.specs.Fmt.{decimal};
+ghost use Rattle.report_frame.specs.View.{fields_of};
+ghost use Rattle.star_tool.specs.CheckText.{WritesLine, finding_of, check_text_of, line, good_head, good_tail, count_line};
+ghost use Rattle.star_tool.specs.CheckText.Finding.{Good, Refused};
+ghost use Rattle.star_io.specs.declared.record.Record.TheVariants.{Whole};
+
+use report_frame::{FrameView, MAX_FRAME, decode_view};
+use star_io::{MAX_RECORDS, NoMemory, Record};
+use std::alloc::{AllocError, Global};
+use std::fmt::Write;
+
+/// The lines of `check`: one for each record, in order, and a last one that counts them.
+pub fn check_text(alloc: Global, records: &[Record]) -> Result<Vec<u8>, NoMemory>
+    requires { length records.now ≤ MAX_RECORDS }
+    ensures { IfOk result (λ text. text.items ≡ check_text_of records.now) }
+{
+    let mut text = String::new(alloc);
+    let mut number = 0u32;
+    let mut good = 0u32;
+    for entry in records {
+        let is_good = push_line(&mut text, number, entry)?;
+        good += u32::from(is_good);
+        number += 1;
+    }
+    let refused = number - good;
+    push_count_line(&mut text, number, good, refused)?;
+    Ok(text.into_bytes())
+}
+
+// Writes the line of a record, and says whether it is a frame.
+fn push_line(text: &mut String, number: u32, entry: &Record) -> Result<bool, AllocError>
+    ensures { IfOk result (λ good. WritesLine number (finding_of entry.now) good (string_bytes text.old) (string_bytes text.new)) }
+{
+    match entry {
+        Record::Whole(bytes) => push_whole(text, number, bytes.as_slice()),
+        Record::TooLong { .. } => {
+            push_refused(text, number, "TooLong", MAX_FRAME as u32)?;
+            Ok(false)
+        }
+        Record::CutLength { have } => {
+            push_refused(text, number, "CutLength", *have)?;
+            Ok(false)
+        }
+        Record::CutRecord { have, .. } => {
+            push_refused(text, number, "CutRecord", *have)?;
+            Ok(false)
+        }
+    }
+}
+
+fn push_whole(text: &mut String, number: u32, bytes: &[u8]) -> Result<bool, AllocError>
+    ensures { IfOk result (λ good. WritesLine number (finding_of (Whole bytes.now)) good (string_bytes text.old) (string_bytes text.new)) }
+{
+    match decode_view(bytes) {
+        Ok(view) => {
+            push_good(text, number, &view)?;
+            Ok(true)
+        }
+        Err(fault) => {
+            push_refused(text, number, fault.kind.name(), fault.at)?;
+            Ok(false)
+        }
+    }
+}
+
+fn push_refused(text: &mut String, number: u32, name: &str, at: u32) -> Result<(), AllocError>
+    ensures { OnOk result (string_bytes text.new ≡ string_bytes text.old ++ line number (Refused name.now at)) }
+{
+    write!(text, "{number} refused {name} {at}\n")
+}
+
+fn push_good(text: &mut String, number: u32, view: &FrameView<'_>) -> Result<(), AllocError>
+    ensures { OnOk result (string_bytes text.new ≡ string_bytes text.old ++ line number (Good (fields_of view.now))) }
+{
+    push_good_head(text, number, view.level(), view.epoch())?;
+    push_good_tail(text, view.k(), view.boxed().len(), view.body().len())?;
+    Ok(())
+}
+
+fn push_good_head(text: &mut String, number: u32, level: u8, epoch: u32) -> Result<(), AllocError>
+    ensures { OnOk result (string_bytes text.new ≡ string_bytes text.old ++ good_head number level epoch) }
+{
+    write!(text, "{number}")?;
+    push_number(text, " good level=", u64::from(level))?;
+    push_number(text, " epoch=", u64::from(epoch))?;
+    Ok(())
+}
+
+fn push_good_tail(text: &mut String, k: u16, boxed: usize, body: usize) -> Result<(), AllocError>
+    ensures { OnOk result (string_bytes text.new ≡ string_bytes text.old ++ good_tail k boxed body) }
+{
+    push_number(text, " k=", u64::from(k))?;
+    push_number(text, " box=", boxed as u64)?;
+    push_number(text, " body=", body as u64)?;
+    text.push_str("\n")?;
+    Ok(())
+}
+
+fn push_count_line(
+    text: &mut String,
+    number: u32,
+    good: u32,
+    refused: u32,
+) -> Result<(), AllocError>
+    ensures { OnOk result (string_bytes text.new ≡ string_bytes text.old ++ count_line number good refused) }
+{
+    push_number(text, "records=", u64::from(number))?;
+    push_number(text, " good=", u64::from(good))?;
+    push_number(text, " refused=", u64::from(refused))?;
+    text.push_str("\n")?;
+    Ok(())
+}
+
+// Writes a label and a number.
+fn push_number(text: &mut String, label: &str, n: u64) -> Result<(), AllocError>
+    ensures { OnOk result (string_bytes text.new ≡ string_bytes text.old ++ (label.now ++ decimal n)) }
+{
+    write!(text, "{label}{n}")
+}

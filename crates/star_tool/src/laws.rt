@@ -1,0 +1,49 @@
+//! Laws of the commands: what a refusal of their input means. Each function does nothing: its
+//! clause is a fact about the definitions that the contract of `run` cites.
+ghost use Rattle.std.specs.Prelude.{◌≡◌, ◌↔◌, ℕ, List, Option, None, Some};
+ghost use Rattle.star_io.specs.Bytes.{AreBytes};
+ghost use Rattle.star_io.specs.RecordLists.{HasMoreThan};
+ghost use Rattle.star_io.specs.declared.record.TheConstants.{MAX_RECORDS};
+ghost use Rattle.star_vectors.specs.Comparison.{first_differing};
+ghost use Rattle.star_vectors.specs.Vectors.{vectors};
+ghost use Rattle.command_words.specs.declared.command.Command.{Command};
+ghost use Rattle.command_words.specs.declared.command.Command.TheVariants.{Check, Make, SelfTest};
+ghost use Rattle.star_tool.specs.Commands.{refusal_of};
+ghost use Rattle.star_tool.specs.Verbs.Make.{HasTooMuch, HasBadCell, IsTableText};
+ghost use Rattle.star_tool.specs.declared.status.Status.{Status};
+ghost use Rattle.star_tool.specs.declared.verbs.make.TheConstants.{MAX_TABLE_BYTES};
+
+/// `check` refuses exactly the streams with a byte behind the last record that is read.
+#[tactic(auto, using(crate::proofs::CheckLemmas::too_many_means, crate::proofs::CheckLemmas::too_many_only))]
+pub fn check_refuses()
+    ensures too_many { (bytes : List ℕ) → AreBytes bytes →
+        (refusal_of Check bytes ≡ Some Status.TooMany) ↔ HasMoreThan MAX_RECORDS bytes }
+    ensures only { (bytes : List ℕ) (status : Status) →
+        refusal_of Check bytes ≡ Some status → status ≡ Status.TooMany }
+{}
+
+/// `make` refuses exactly what is too much for a table, and else what has a bad place.
+#[tactic(auto, using(crate::proofs::MakeLemmas::too_many_means, crate::proofs::MakeLemmas::bad_means, crate::proofs::MakeLemmas::none_means))]
+pub fn make_refuses()
+    ensures too_many { (epoch : ℕ) (thresholds bytes : List ℕ) (given : Option (List ℕ)) →
+        (refusal_of (Make epoch thresholds given) bytes ≡ Some Status.TooMany) ↔ HasTooMuch bytes }
+    ensures bad { (epoch row column : ℕ) (thresholds bytes : List ℕ) (given : Option (List ℕ)) →
+        (refusal_of (Make epoch thresholds given) bytes ≡ Some (Status.BadTable row column))
+        ↔ HasBadCell thresholds bytes row column }
+    ensures good { (epoch : ℕ) (thresholds bytes : List ℕ) (given : Option (List ℕ)) →
+        (refusal_of (Make epoch thresholds given) bytes ≡ None) ↔ IsTableText thresholds bytes }
+{}
+
+/// `selftest` refuses exactly where a vector differs, and names the first one.
+pub fn self_test_refuses()
+    ensures bad { (number : ℕ) (got wanted bytes : List ℕ) →
+        first_differing vectors ≡ Some (record { number = number; got = got; wanted = wanted }) →
+        refusal_of SelfTest bytes ≡ Some (Status.BadVector number got wanted) }
+    ensures good { (bytes : List ℕ) →
+        first_differing vectors ≡ None → refusal_of SelfTest bytes ≡ None }
+{}
+
+/// The limits in plain numbers.
+pub fn limits()
+    ensures { MAX_TABLE_BYTES ≡ 134217728 }
+{}

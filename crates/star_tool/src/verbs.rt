@@ -1,0 +1,5 @@
+// What each verb does, in a file of its own.
+
+pub(crate) mod check;
+pub(crate) mod make;
+pub(crate) mod self_test;
