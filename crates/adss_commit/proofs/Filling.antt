@@ -20,7 +20,7 @@ constant c j = slice_index (limbs (context_key c)) j ∷ replicate (c.k - 1) 0
 abbrev pub filled : Context → ℕ → ℕ → List ℕ
 filled c j i = paste (constant c j) 0 (polynomial c j) i
 
-length-polynomial : (c : Context) (j : ℕ) → 1 ≤ c.k → length (polynomial c j) ≡ c.k
+pub length-polynomial : (c : Context) (j : ℕ) → 1 ≤ c.k → length (polynomial c j) ≡ c.k
 unfolding polynomial
 length-polynomial c j low =
     let coefficient : ℕ → ℕ = λ (i : ℕ). field_number (coin_key c) (8 * (3 * i + j)) in

@@ -2,3 +2,4 @@ pub mod Filling
 pub mod Keystreams
 pub mod Opening
 pub mod Spelt
+pub mod Honest

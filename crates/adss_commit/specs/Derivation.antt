@@ -1,5 +1,6 @@
 -- What is derived from a context: by SHA-256 (FIPS 180-4) under a label, and by keystreams of ChaCha20 (RFC 8439).
-use Rattle.std.specs.Prelude.{◌≡◌, ℕ, ◌+◌, ◌-◌, ◌*◌, ◌%◌, ◌^◌, List, [], ◌∷◌, ◌++◌, length, map, replicate, slice_index, take, codes}
+use Rattle.std.specs.Prelude.{◌≡◌, ℕ, ◌+◌, ◌-◌, ◌*◌, ◌%◌, ◌^◌, List, [], ◌∷◌, ◌++◌, length, map, replicate, slice_index, take, codes, ◌&&◌, if◌then◌else◌, Option, Some, None}
+use Rattle.std.specs.Str.{bytes_eq}
 use Rattle.std.specs.Int.{w8, w16, w32, to_be_bytes}
 use Rattle.std.specs.List.{range_with_len}
 use Rattle.sha2.specs.Sha256.{sha256}
@@ -85,3 +86,13 @@ abbrev pub Opens : Key → Head → List ℕ → ℕ → ℕ → Type 0
 Opens key head parent epoch level =
     let c = context_named key head parent epoch level in
     (context_key c ≡ key.bytes) × (context_tag c ≡ head.tag) × (context_check c ≡ head.check)
+
+-- the value in a head's box, where the context that they name gives the key, the tag and the check back
+unfoldable pub opened_value : Key → Head → List ℕ → ℕ → ℕ → Option (List ℕ)
+opened_value key head parent epoch level =
+    let c = context_named key head parent epoch level in
+    if bytes_eq (context_key c) key.bytes && (bytes_eq (context_tag c) head.tag && bytes_eq (context_check c) head.check) then Some c.value else None
+
+-- a body under the keystream of a body key with its nonce; done twice it is the body again
+abbrev pub body_of : List ℕ → List ℕ → List ℕ → List ℕ
+body_of key nonce body = xor_bytes body (keystream key nonce 0 0 (length body))

@@ -1,6 +1,6 @@
 ghost use Rattle.std.specs.Prelude.{◌≡◌, ◌≤◌, ◌↔◌, IsSome, IfSome};
 ghost use Rattle.report_frame.specs.declared.limits.TheConstants.{MAX_THRESHOLD};
-ghost use Rattle.adss_commit.specs.Derivation.{box_of, Opens};
+ghost use Rattle.adss_commit.specs.Derivation.{box_of, Opens, opened_value};
 
 use crate::context::{Context, context_check, context_key, context_tag};
 use crate::keys::box_key;
@@ -31,6 +31,21 @@ pub fn open_value(
 ) -> Option<Value>
     requires low { 1 ≤ head.now.k }
     requires high { head.now.k ≤ MAX_THRESHOLD }
+    ensures value { IfSome result (λ v. v ≡ box_of key.now.bytes head.now.boxed) }
+    ensures found { IsSome result ↔ Opens key.now head.now parent.now epoch level }
+    ensures opened { result ≡ opened_value key.now head.now parent.now epoch level }
+{
+    value_in(key, head, parent, epoch, level)
+}
+
+// The same, by the two clauses that say what is compared.
+fn value_in(
+    key: &Key,
+    head: &Head,
+    parent: &[u8; CHECK_BYTES],
+    epoch: u32,
+    level: u8,
+) -> Option<Value>
     ensures value { IfSome result (λ v. v ≡ box_of key.now.bytes head.now.boxed) }
     ensures found { IsSome result ↔ Opens key.now head.now parent.now epoch level }
 {

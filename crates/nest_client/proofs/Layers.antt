@@ -12,9 +12,9 @@ use Rattle.report_frame.proofs.FrameLaws.{has_frame, in_range, frame_length, sea
 use Rattle.shamir_limbs.specs.Coefficients.{values}
 use Rattle.adss_commit.specs.declared.context.Context.{Context}
 use Rattle.adss_commit.specs.declared.context.Derived.{Derived}
-use Rattle.adss_commit.specs.Derivation.{polynomial, polynomials, derived, box_of, body_key_of, seal_key_of}
+use Rattle.adss_commit.specs.Derivation.{polynomial, polynomials, derived, box_of, body_key_of, body_of, seal_key_of}
 use Rattle.nest_client.specs.declared.client.Client.{Client}
-use Rattle.nest_client.specs.Report.{coins, point_of, nonce_of, body_of, layer, frame_of, sealed_by, share}
+use Rattle.nest_client.specs.Report.{coins, point_of, nonce_of, layer, frame_of, sealed_by, share}
 
 -- a part of the keystream
 pub part-of_keystream : (key nonce : List ℕ) (counter n from count : ℕ) → from + count ≤ n

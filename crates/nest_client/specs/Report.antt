@@ -1,15 +1,15 @@
 -- The report of a client: the frame of layer 0, whose body holds the frame of layer 1, and so on.
-use Rattle.std.specs.Prelude.{ℕ, ◌+◌, ◌*◌, ◌%◌, ◌^◌, ◌<◌, ◌≤◌, List, [], ◌∷◌, ◌++◌, length, drop, get_or, replicate, slice_index, slice_range}
+use Rattle.std.specs.Prelude.{◌≡◌, ℕ, ◌+◌, ◌*◌, ◌%◌, ◌^◌, ◌<◌, ◌≤◌, List, [], ◌∷◌, ◌++◌, length, drop, get_or, replicate, slice_index, slice_range}
 use Rattle.std.specs.Int.{w32, to_le_bytes}
 use Rattle.byteorder.specs.Endian.{big_number}
-use Rattle.chacha_stream.specs.Keystream.{keystream, xor_bytes}
+use Rattle.chacha_stream.specs.Keystream.{keystream}
 use Rattle.hmac_seal.specs.Hmac.{hmac_sha256}
 use Rattle.field61.specs.Field.{field_sum}
 use Rattle.report_frame.specs.Format.{spelling}
 use Rattle.report_frame.specs.Frame.{Fields, frame, entries, sealed_part}
 use Rattle.shamir_limbs.specs.Coefficients.{values}
 use Rattle.adss_commit.specs.declared.context.Context.{Context}
-use Rattle.adss_commit.specs.Derivation.{context_key, context_tag, context_check, box_of, body_key_of, seal_key_of, polynomials}
+use Rattle.adss_commit.specs.Derivation.{context_key, context_tag, context_check, box_of, body_key_of, body_of, seal_key_of, polynomials}
 use Rattle.nest_client.specs.declared.client.Client.{Client}
 
 -- ---- coins
@@ -35,10 +35,6 @@ nonce_of coins = slice_range coins 8 20
 -- the value of polynomial j of a context at the point of these coins
 abbrev pub share : Context → List ℕ → ℕ → ℕ
 share x coins j = slice_index (values (polynomials x) (point_of coins)) j
-
--- the plain body under the keystream of a body key
-abbrev pub body_of : List ℕ → List ℕ → List ℕ → List ℕ
-body_of key nonce plain = xor_bytes plain (keystream key nonce 0 0 (length plain))
 
 -- the report with the seal that this key makes
 abbrev pub sealed_by : List ℕ → Fields → Fields
@@ -98,3 +94,10 @@ report c values thresholds = report_shifted c 0 values thresholds
 -- a client by its parts
 abbrev pub client_of : ℕ → List ℕ → ℕ → Client
 client_of epoch seed number = record { epoch = epoch; seed = seed; number = number }
+
+-- ---- what a report holds
+
+-- under this key of a context the seal is that of the bytes before it, and the body is this plain body
+pub record HoldsUnder (r : Fields) (key plain : List ℕ) : Type 0 where
+  pub seal : r.seal ≡ hmac_sha256 (seal_key_of key) (sealed_part r)
+  pub body : body_of (body_key_of key) r.nonce r.body ≡ plain

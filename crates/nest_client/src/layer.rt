@@ -2,8 +2,8 @@ ghost use Rattle.std.specs.Prelude.{◌≡◌, ◌≤◌, ◌+◌, length, IfOk}
 ghost use Rattle.report_frame.specs.Frame.{IsFrame};
 ghost use Rattle.report_frame.specs.Report.{IsGood, fields_of_report};
 ghost use Rattle.report_frame.specs.declared.limits.TheConstants.{FIXED_BYTES, MAX_LEVEL, MIN_THRESHOLD, MAX_THRESHOLD};
-ghost use Rattle.adss_commit.specs.Derivation.{derived};
-ghost use Rattle.nest_client.specs.Report.{body_of, frame_of, layer, sealed_by};
+ghost use Rattle.adss_commit.specs.Derivation.{derived, body_of};
+ghost use Rattle.nest_client.specs.Report.{frame_of, layer, sealed_by};
 
 use crate::client::{Client, coins_of, nonce_of, point_of};
 use adss_commit::{Context, Derived, body_key, box_value, coefficients, seal_key};
