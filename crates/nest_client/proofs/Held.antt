@@ -3,22 +3,17 @@ use Rattle.std.proofs.Common.{◌≡◌, ◌∙◌, ◌<◌, ◌≤◌, ℕ, ◌
 use Rattle.std.proofs.Math.Nat.{mod-lt}
 use Rattle.std.proofs.lemmas.List.{length-take, length-drop}
 use Rattle.byteorder.specs.Endian.{big_number}
-use Rattle.sha2.specs.Sha256.{sha256}
 use Rattle.sha2.proofs.Facts256.{length-sha256}
 use Rattle.hmac_seal.specs.Hmac.{hmac_sha256}
-use Rattle.chacha_stream.specs.Keystream.{keystream, xor_bytes}
 use Rattle.chacha_stream.proofs.StreamLaws.{keystream_length, same_length}
 use Rattle.field61.specs.declared.TheConstants.{MODULUS}
 use Rattle.field61.proofs.FieldLaws.{sum_below}
-use Rattle.report_frame.specs.declared.head.Head.{Head}
 use Rattle.report_frame.specs.declared.limits.TheConstants.{FIXED_BYTES, MAX_FRAME, MAX_LEVEL, MIN_THRESHOLD, MAX_THRESHOLD, MAX_VALUE}
-use Rattle.report_frame.specs.Format.{spelling}
-use Rattle.report_frame.specs.Frame.{Fields, IsFrame, frame, entries, sealed_part}
-use Rattle.report_frame.specs.Laws.{InRange}
+use Rattle.report_frame.specs.Frame.{IsFrame}
 use Rattle.report_frame.specs.View.{head_of}
 use Rattle.report_frame.proofs.FrameLaws.{has_frame}
 use Rattle.adss_commit.specs.declared.context.Context.{Context}
-use Rattle.adss_commit.specs.Derivation.{label, hashed, context_bytes, context_key, polynomial, body_key_of, body_of, box_of, box_key_of, zero_nonce, seal_key_of}
+use Rattle.adss_commit.specs.Derivation.{label, hashed, context_bytes, context_key, polynomial, body_key_of, body_of, box_of}
 use Rattle.adss_commit.specs.Derivation.{head_of as context_head}
 use Rattle.adss_commit.proofs.Honest.{body_twice}
 use Rattle.nest_client.specs.declared.client.Client.{Client}

@@ -1,5 +1,5 @@
 -- The report of a client: the frame of layer 0, whose body holds the frame of layer 1, and so on.
-use Rattle.std.specs.Prelude.{◌≡◌, ℕ, ◌+◌, ◌*◌, ◌%◌, ◌^◌, ◌<◌, ◌≤◌, List, [], ◌∷◌, ◌++◌, length, drop, get_or, replicate, slice_index, slice_range}
+use Rattle.std.specs.Prelude.{◌≡◌, ℕ, ◌+◌, ◌*◌, ◌%◌, ◌^◌, List, [], ◌∷◌, ◌++◌, drop, get_or, replicate, slice_index, slice_range}
 use Rattle.std.specs.Int.{w32, to_le_bytes}
 use Rattle.byteorder.specs.Endian.{big_number}
 use Rattle.chacha_stream.specs.Keystream.{keystream}
