@@ -1,9 +1,9 @@
 -- Points on the polynomials of a context give back its key, and a head that opens is that of its context.
-use Rattle.std.proofs.Common.{◌≡◌, ◌∙◌, ◌<◌, ◌≤◌, ℕ, zero, suc, ◌+◌, ◌*◌, ◌-◌, ◌%◌, ◌^◌, Bool, true, false, ◌&&◌, cond, List, [], ◌∷◌, ◌++◌, length, take, get_or, map, slice_index, Option, Some, None, IsSome, IfSome, ◌↔◌, refl, ap, ap₂, subst, sym, arith, bytes_eq}
-use Rattle.std.specs.List.{All, range_with_len}
+use Rattle.std.proofs.Common.{◌≡◌, ◌∙◌, ◌<◌, ◌≤◌, ℕ, zero, suc, ◌+◌, ◌*◌, ◌-◌, Bool, true, false, ◌&&◌, cond, List, [], ◌∷◌, ◌++◌, length, map, slice_index, Option, Some, None, IsSome, IfSome, ◌↔◌, refl, ap, ap₂, subst, sym, arith, bytes_eq}
+use Rattle.std.specs.List.{range_with_len}
 use Rattle.std.specs.Int.{w32, to_be_bytes}
 use Rattle.std.proofs.Math.Nat.{mod-lt}
-use Rattle.std.proofs.lemmas.Bool.{true≢false, false≢true, and_parts, and_from}
+use Rattle.std.proofs.lemmas.Bool.{false≢true, and_parts, and_from}
 use Rattle.std.proofs.lemmas.Slice.Eq.{bytes_eq-Decides}
 use Rattle.std.proofs.lemmas.List.{get_or_past, length-take}
 use Rattle.std.proofs.lemmas.List.Elements.{All-cons, All-map}
@@ -14,13 +14,14 @@ use Rattle.star_io.proofs.ByteLists.{AreBytes-nil, AreBytes-append, AreBytes-tak
 use Rattle.chacha_stream.specs.Keystream.{keystream, xor_bytes}
 use Rattle.chacha_stream.proofs.StreamLaws.{same_length, twice}
 use Rattle.field61.specs.declared.TheConstants.{MODULUS}
-use Rattle.field61.specs.Field.{field_sum, field_product, AreElements}
-use Rattle.field61.proofs.FieldLaws.{modulus_positive, product_zero, zero_product, sum_zero}
+use Rattle.field61.specs.Field.{field_sum, AreElements}
+use Rattle.field61.proofs.FieldLaws.{modulus_positive, zero_product, sum_zero}
 use Rattle.shamir_limbs.specs.KeyLine.{value, HasDegreeBelow, AreDistinct}
+use Rattle.report_frame.specs.declared.version.Version.{Version}
 use Rattle.report_frame.specs.declared.head.Head.{Head}
 use Rattle.shamir_limbs.specs.Limbs.{limbs, key_bytes, IsKey, AreLimbs}
 use Rattle.shamir_limbs.specs.KeyLine.{xs_of, agreement_of_all, values_at_zero, IsKeyLine}
-use Rattle.shamir_limbs.specs.Search.{recovered_from, key_line_of}
+use Rattle.shamir_limbs.specs.Search.{key_line_of}
 use Rattle.shamir_limbs.specs.declared.key.Key.{Key}
 use Rattle.shamir_limbs.specs.declared.recovery.Recovered.{Recovered}
 use Rattle.shamir_limbs.specs.declared.share.Point.{Point}
@@ -28,7 +29,7 @@ use Rattle.shamir_limbs.proofs.LimbLaws.{limbs_come_back}
 use Rattle.shamir_limbs.proofs.LineSearch.{line_of_polynomials}
 use Rattle.shamir_limbs.proofs.LowBytes.{AreBytes-bytes_high_first}
 use Rattle.adss_commit.specs.declared.context.Context.{Context}
-use Rattle.adss_commit.specs.Derivation.{label, hashed, context_bytes, context_key, context_tag, context_check, coin_key, field_number, polynomial, derived, head_of, box_of, body_of, context_named, Opens, opened_value}
+use Rattle.adss_commit.specs.Derivation.{label, hashed, context_bytes, context_key, context_tag, context_check, coin_key, field_number, polynomial, derived, context_head, box_of, body_of, context_named, Opens, opened_value}
 use Rattle.adss_commit.proofs.Filling.{length-polynomial}
 use Rattle.adss_commit.proofs.Opening.{box_twice, own_head_opens}
 
@@ -44,7 +45,7 @@ AreBytes-sha256 m = AreBytes-digest_bytes (final_hash initial_hash_256 m) 8
 pub IsKey-context_key : (c : Context) → IsKey (context_key c)
 unfolding hashed
 IsKey-context_key c =
-    let m : List ℕ = label ++ 1 ∷ context_bytes c in
+    let m : List ℕ = label c.version ++ 1 ∷ context_bytes c in
     (omega (arith, length-take 16 (sha256 m), length-sha256 m), AreBytes-take 16 (sha256 m) (AreBytes-sha256 m))
 
 -- ---- the polynomials are a key line
@@ -107,24 +108,24 @@ own_key c points low elements distinct threshold enough =
 
 -- a head that opens is the head of the context that it names
 pub opened_head : (key : Key) (head : Head) (parent : List ℕ) (epoch level : ℕ) → Opens key head parent epoch level
-    → head ≡ head_of (context_named key head parent epoch level)
+    → head ≡ context_head (context_named key head parent epoch level)
 opened_head key head parent epoch level opens =
     let c : Context = context_named key head parent epoch level in
-    let boxed : head.boxed ≡ box_of (context_key c) c.value = sym (ap (λ (k : List ℕ). box_of k c.value) opens.0 ∙ box_twice key.bytes head.boxed) in
-    ap₂ (λ (t s : List ℕ). let h : Head = record { k = head.k; tag = t; check = s; boxed = head.boxed } in h) (sym opens.1) (sym opens.2)
-    ∙ ap (λ (b : List ℕ). let h : Head = record { k = head.k; tag = context_tag c; check = context_check c; boxed = b } in h) boxed
+    let boxed : head.boxed ≡ box_of head.version (context_key c) c.value = sym (ap (λ (k : List ℕ). box_of head.version k c.value) opens.0 ∙ box_twice head.version key.bytes head.boxed) in
+    ap₂ (λ (t s : List ℕ). let h : Head = record { version = head.version; k = head.k; tag = t; check = s; boxed = head.boxed } in h) (sym opens.1) (sym opens.2)
+    ∙ ap (λ (b : List ℕ). let h : Head = record { version = head.version; k = head.k; tag = context_tag c; check = context_check c; boxed = b } in h) boxed
 
 opens_at : (key : Key) (head : Head) (parent : List ℕ) (epoch level : ℕ) (b : Bool)
     → (b ≡ true → Opens key head parent epoch level) → (Opens key head parent epoch level → b ≡ true)
-    → (IsSome (cond b (Some (box_of key.bytes head.boxed)) None) ↔ Opens key head parent epoch level)
-    × IfSome (cond b (Some (box_of key.bytes head.boxed)) None) (λ v. v ≡ box_of key.bytes head.boxed)
+    → (IsSome (cond b (Some (box_of head.version key.bytes head.boxed)) None) ↔ Opens key head parent epoch level)
+    × IfSome (cond b (Some (box_of head.version key.bytes head.boxed)) None) (λ v. v ≡ box_of head.version key.bytes head.boxed)
 opens_at key head parent epoch level true sound complete = ((λ _. sound refl, λ _. refl), refl)
 opens_at key head parent epoch level false sound complete = ((λ e. absurd (false≢true e), λ o. absurd (false≢true (complete o))), tt)
 
 -- the function answers exactly where the head opens, with the value in its box
 pub opened_exactly : (key : Key) (head : Head) (parent : List ℕ) (epoch level : ℕ)
     → (IsSome (opened_value key head parent epoch level) ↔ Opens key head parent epoch level)
-    × IfSome (opened_value key head parent epoch level) (λ v. v ≡ box_of key.bytes head.boxed)
+    × IfSome (opened_value key head parent epoch level) (λ v. v ≡ box_of head.version key.bytes head.boxed)
 unfolding opened_value
 opened_exactly key head parent epoch level =
     let c : Context = context_named key head parent epoch level in
@@ -133,22 +134,22 @@ opened_exactly key head parent epoch level =
     let z : Bool = bytes_eq (context_check c) head.check in
     opens_at key head parent epoch level (x && (y && z))
     (λ e. let p = and_parts x (y && z) e in let q = and_parts y z p.1 in
-      ((bytes_eq-Decides (context_key c) key.bytes).0 p.0, (bytes_eq-Decides (context_tag c) head.tag).0 q.0, (bytes_eq-Decides (context_check c) head.check).0 q.1))
+    ((bytes_eq-Decides (context_key c) key.bytes).0 p.0, (bytes_eq-Decides (context_tag c) head.tag).0 q.0, (bytes_eq-Decides (context_check c) head.check).0 q.1))
     (λ o. and_from x (y && z) ((bytes_eq-Decides (context_key c) key.bytes).1 o.0)
-      (and_from y z ((bytes_eq-Decides (context_tag c) head.tag).1 o.1) ((bytes_eq-Decides (context_check c) head.check).1 o.2)))
+    (and_from y z ((bytes_eq-Decides (context_tag c) head.tag).1 o.1) ((bytes_eq-Decides (context_check c) head.check).1 o.2)))
 
 same_option : (o : Option (List ℕ)) (v : List ℕ) → IsSome o → IfSome o (λ w. w ≡ v) → o ≡ Some v
 same_option (Some w) v some is = ap Some is
 same_option None v some is = absurd (false≢true some)
 
 -- an answer that comes exactly where the head opens, with the value in its box, is the one of the function
-pub answer_is_opened : (o : Option (List ℕ)) (key : Key) (head : Head) (parent : List ℕ) (epoch level : ℕ) → IfSome o (λ v. v ≡ box_of key.bytes head.boxed)
+pub answer_is_opened : (o : Option (List ℕ)) (key : Key) (head : Head) (parent : List ℕ) (epoch level : ℕ) → IfSome o (λ v. v ≡ box_of head.version key.bytes head.boxed)
     → (IsSome o ↔ Opens key head parent epoch level) → o ≡ opened_value key head parent epoch level
 answer_is_opened o key head parent epoch level value found =
     let answer = opened_exactly key head parent epoch level in
     by_answers o (opened_value key head parent epoch level) value answer.1 (λ some. answer.0.1 (found.0 some)) (λ some. found.1 (answer.0.0 some))
   where
-    by_answers : (o r : Option (List ℕ)) → IfSome o (λ v. v ≡ box_of key.bytes head.boxed) → IfSome r (λ v. v ≡ box_of key.bytes head.boxed)
+    by_answers : (o r : Option (List ℕ)) → IfSome o (λ v. v ≡ box_of head.version key.bytes head.boxed) → IfSome r (λ v. v ≡ box_of head.version key.bytes head.boxed)
         → (IsSome o → IsSome r) → (IsSome r → IsSome o) → o ≡ r
     by_answers (Some v) (Some w) a b on back = ap Some (a ∙ sym b)
     by_answers (Some v) None a b on back = absurd (false≢true (on refl))
@@ -156,25 +157,26 @@ answer_is_opened o key head parent epoch level value found =
     by_answers None None a b on back = refl
 
 -- the head of a context gives its value back under its own key
-pub own_value : (c : Context) → opened_value (derived c).key (head_of c) c.parent c.epoch c.level ≡ Some c.value
+pub own_value : (c : Context) → opened_value (derived c).key (context_head c) c.parent c.epoch c.level ≡ Some c.value
 own_value c =
-    let answer = opened_exactly (derived c).key (head_of c) c.parent c.epoch c.level in
-    same_option (opened_value (derived c).key (head_of c) c.parent c.epoch c.level) (box_of (context_key c) (box_of (context_key c) c.value)) (answer.0.1 (own_head_opens c)) answer.1
-    ∙ ap Some (box_twice (context_key c) c.value)
+    let answer = opened_exactly (derived c).key (context_head c) c.parent c.epoch c.level in
+    same_option (opened_value (derived c).key (context_head c) c.parent c.epoch c.level) (box_of c.version (context_key c) (box_of c.version (context_key c) c.value)) (answer.0.1 (own_head_opens c)) answer.1
+    ∙ ap Some (box_twice c.version (context_key c) c.value)
 
 opened_named : (o : Option (List ℕ)) (v w : List ℕ) → o ≡ Some v → IfSome o (λ u. u ≡ w) → IsSome o × (w ≡ v)
 opened_named o v w some is = subst (λ (p : Option (List ℕ)). IfSome p (λ u. u ≡ w) → IsSome p × (w ≡ v)) (sym some) (λ e. (refl, sym e)) is
 
--- two heads that open to one value under one threshold at one place are one head
+-- two heads of one version that open to one value under one threshold at one place are one head
 pub one_head : (p q : Key) (a b : Head) (parent : List ℕ) (epoch level : ℕ) (value : List ℕ)
-    → opened_value p a parent epoch level ≡ Some value → opened_value q b parent epoch level ≡ Some value → a.k ≡ b.k → a ≡ b
-one_head p q a b parent epoch level value of_a of_b same =
+    → opened_value p a parent epoch level ≡ Some value → opened_value q b parent epoch level ≡ Some value → a.version ≡ b.version → a.k ≡ b.k → a ≡ b
+one_head p q a b parent epoch level value of_a of_b same_version same =
     let first = opened_exactly p a parent epoch level in
     let second = opened_exactly q b parent epoch level in
-    let left = opened_named (opened_value p a parent epoch level) value (box_of p.bytes a.boxed) of_a first.1 in
-    let right = opened_named (opened_value q b parent epoch level) value (box_of q.bytes b.boxed) of_b second.1 in
+    let left = opened_named (opened_value p a parent epoch level) value (box_of a.version p.bytes a.boxed) of_a first.1 in
+    let right = opened_named (opened_value q b parent epoch level) value (box_of b.version q.bytes b.boxed) of_b second.1 in
     opened_head p a parent epoch level (first.0.0 left.0)
-    ∙ ap₂ (λ (v : List ℕ) (k : ℕ). let c : Context = record { parent = parent; epoch = epoch; level = level; k = k; value = v } in head_of c) (left.1 ∙ sym right.1) same
+    ∙ ap (λ (w : Version). let c : Context = record { version = w; parent = parent; epoch = epoch; level = level; k = a.k; value = box_of a.version p.bytes a.boxed } in context_head c) same_version
+    ∙ ap₂ (λ (v : List ℕ) (k : ℕ). let c : Context = record { version = b.version; parent = parent; epoch = epoch; level = level; k = k; value = v } in context_head c) (left.1 ∙ sym right.1) same
     ∙ sym (opened_head q b parent epoch level (second.0.0 right.0))
 
 -- a body under its keystream twice is the body again

@@ -1,5 +1,5 @@
-pub mod Filling
+mod Filling
 pub mod Keystreams
-pub mod Opening
-pub mod Spelt
+mod Opening
+mod Spelt
 pub mod Honest

@@ -1,4 +1,4 @@
--- What is derived from a context: by SHA-256 (FIPS 180-4) under a label, and by keystreams of ChaCha20 (RFC 8439).
+-- What is derived from a context: by SHA-256 (FIPS 180-4) under the label of its version, and by keystreams of ChaCha20 (RFC 8439).
 use Rattle.std.specs.Prelude.{◌≡◌, ℕ, ◌+◌, ◌-◌, ◌*◌, ◌%◌, ◌^◌, List, [], ◌∷◌, ◌++◌, length, map, replicate, slice_index, take, codes, ◌&&◌, if◌then◌else◌, Option, Some, None}
 use Rattle.std.specs.Str.{bytes_eq}
 use Rattle.std.specs.Int.{w8, w16, w32, to_be_bytes}
@@ -7,53 +7,57 @@ use Rattle.sha2.specs.Sha256.{sha256}
 use Rattle.byteorder.specs.Endian.{big_number}
 use Rattle.chacha_stream.specs.Keystream.{keystream, xor_bytes}
 use Rattle.field61.specs.declared.TheConstants.{MODULUS}
+use Rattle.report_frame.specs.declared.version.Version.{Version}
+use Rattle.report_frame.specs.declared.version.Version.TheVariants.{One, Two}
 use Rattle.report_frame.specs.declared.head.Head.{Head}
 use Rattle.shamir_limbs.specs.Limbs.{limbs}
 use Rattle.shamir_limbs.specs.declared.key.Key.{Key}
 use Rattle.adss_commit.specs.declared.context.Context.{Context}
 use Rattle.adss_commit.specs.declared.context.Derived.{Derived}
 
-abbrev pub label : List ℕ
-label = codes "STARNEST"
+-- what each hash of a version begins with
+abbrev pub label : Version → List ℕ
+label One = codes "STARNEST"
+label Two = codes "STARNES2"
 
 -- the hash of a text under a label and the byte of a kind
 unfoldable pub hashed : List ℕ → ℕ → List ℕ → List ℕ
 hashed label kind text = sha256 (label ++ kind ∷ text)
 
--- a context, spelled
+-- a context, spelled; its version stands in the label alone
 unfoldable pub context_bytes : Context → List ℕ
 context_bytes c =
     c.parent ++ to_be_bytes w32 c.epoch ++ to_be_bytes w8 c.level ++ to_be_bytes w16 c.k ++ to_be_bytes w8 (length c.value) ++ c.value
 
 abbrev pub context_key : Context → List ℕ
-context_key c = take 16 (hashed label 1 (context_bytes c))
+context_key c = take 16 (hashed (label c.version) 1 (context_bytes c))
 
 abbrev pub context_tag : Context → List ℕ
-context_tag c = take 16 (hashed label 2 (context_bytes c))
+context_tag c = take 16 (hashed (label c.version) 2 (context_bytes c))
 
 abbrev pub context_check : Context → List ℕ
-context_check c = hashed label 3 (context_bytes c)
+context_check c = hashed (label c.version) 3 (context_bytes c)
 
 -- the key of the keystream that the coefficients are taken from
 abbrev pub coin_key : Context → List ℕ
-coin_key c = hashed label 5 (context_bytes c)
+coin_key c = hashed (label c.version) 5 (context_bytes c)
 
-abbrev pub box_key_of : List ℕ → List ℕ
-box_key_of key = hashed label 6 key
+abbrev pub box_key_of : Version → List ℕ → List ℕ
+box_key_of version key = hashed (label version) 6 key
 
-abbrev pub body_key_of : List ℕ → List ℕ
-body_key_of key = hashed label 7 key
+abbrev pub body_key_of : Version → List ℕ → List ℕ
+body_key_of version key = hashed (label version) 7 key
 
-abbrev pub seal_key_of : List ℕ → List ℕ
-seal_key_of key = hashed label 8 key
+abbrev pub seal_key_of : Version → List ℕ → List ℕ
+seal_key_of version key = hashed (label version) 8 key
 
 -- twelve zero bytes
 abbrev pub zero_nonce : List ℕ
 zero_nonce = replicate 12 0
 
 -- the value under the keystream of the box key
-abbrev pub box_of : List ℕ → List ℕ → List ℕ
-box_of key value = xor_bytes value (keystream (box_key_of key) zero_nonce 0 0 (length value))
+abbrev pub box_of : Version → List ℕ → List ℕ → List ℕ
+box_of version key value = xor_bytes value (keystream (box_key_of version key) zero_nonce 0 0 (length value))
 
 -- the number of 8 bytes at this place of a key's keystream, cut to 61 bits; the modulus counts as 0
 unfoldable pub field_number : List ℕ → ℕ → ℕ
@@ -73,13 +77,26 @@ abbrev pub derived : Context → Derived
 derived c = record { key = record { bytes = context_key c }; tag = context_tag c; check = context_check c }
 
 -- what the reports of a context have in common
-abbrev pub head_of : Context → Head
-head_of c = record { k = c.k; tag = context_tag c; check = context_check c; boxed = box_of (context_key c) c.value }
+abbrev pub context_head : Context → Head
+context_head c = record {
+  version = c.version;
+  k = c.k;
+  tag = context_tag c;
+  check = context_check c;
+  boxed = box_of c.version (context_key c) c.value;
+}
 
 -- the context that a key and a head name at a place
 abbrev pub context_named : Key → Head → List ℕ → ℕ → ℕ → Context
 context_named key head parent epoch level =
-    record { parent = parent; epoch = epoch; level = level; k = head.k; value = box_of key.bytes head.boxed }
+    record {
+      version = head.version;
+      parent = parent;
+      epoch = epoch;
+      level = level;
+      k = head.k;
+      value = box_of head.version key.bytes head.boxed;
+    }
 
 -- the context that they name gives the key, the tag and the check back
 abbrev pub Opens : Key → Head → List ℕ → ℕ → ℕ → Type 0

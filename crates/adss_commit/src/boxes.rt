@@ -1,22 +1,23 @@
+// The box of a value, and the value in a box.
 ghost use Rattle.std.specs.Prelude.{◌≡◌, ◌≤◌, ◌↔◌, IsSome, IfSome};
-ghost use Rattle.report_frame.specs.declared.limits.TheConstants.{MAX_THRESHOLD};
+ghost use Rattle.report_frame.specs.Versions.{max_threshold};
 ghost use Rattle.adss_commit.specs.Derivation.{box_of, Opens, opened_value};
 
 use crate::context::{Context, context_check, context_key, context_tag};
 use crate::keys::box_key;
 use chacha_stream::xor_stream;
-use report_frame::{CHECK_BYTES, Head, MAX_VALUE, Value};
+use report_frame::{CHECK_BYTES, Head, MAX_VALUE, Value, Version};
 use shamir_limbs::Key;
 
 /// The box of a value, which is as long; the box of a box is the value again.
-pub fn box_value(key: &Key, value: &Value) -> Value
-    ensures { result ≡ box_of key.now.bytes value.now }
+pub fn box_value(version: Version, key: &Key, value: &Value) -> Value
+    ensures { result ≡ box_of version key.now.bytes value.now }
 {
     let mut room = [0u8; MAX_VALUE];
     let plain = value.as_slice();
     let (front, _) = room.split_at_mut(plain.len());
     front.copy_from_slice(plain);
-    xor_stream(&box_key(key), &[0; 12], 0, front);
+    xor_stream(&box_key(version, key), &[0; 12], 0, front);
     Value::of(front).unwrap()
 }
 
@@ -30,8 +31,8 @@ pub fn open_value(
     level: u8,
 ) -> Option<Value>
     requires low { 1 ≤ head.now.k }
-    requires high { head.now.k ≤ MAX_THRESHOLD }
-    ensures value { IfSome result (λ v. v ≡ box_of key.now.bytes head.now.boxed) }
+    requires high { head.now.k ≤ max_threshold head.now.version }
+    ensures value { IfSome result (λ v. v ≡ box_of head.now.version key.now.bytes head.now.boxed) }
     ensures found { IsSome result ↔ Opens key.now head.now parent.now epoch level }
     ensures opened { result ≡ opened_value key.now head.now parent.now epoch level }
 {
@@ -46,15 +47,16 @@ fn value_in(
     epoch: u32,
     level: u8,
 ) -> Option<Value>
-    ensures value { IfSome result (λ v. v ≡ box_of key.now.bytes head.now.boxed) }
+    ensures value { IfSome result (λ v. v ≡ box_of head.now.version key.now.bytes head.now.boxed) }
     ensures found { IsSome result ↔ Opens key.now head.now parent.now epoch level }
 {
     let context = Context {
+        version: head.version,
         parent: *parent,
         epoch,
         level,
         k: head.k,
-        value: box_value(key, &head.boxed),
+        value: box_value(head.version, key, &head.boxed),
     };
     let opens = context_key(&context) == *key
         && context_tag(&context) == head.tag

@@ -1,13 +1,15 @@
 ghost use Rattle.std.specs.Prelude.{◌≡◌};
 ghost use Rattle.adss_commit.specs.Derivation.{context_key, context_tag, context_check, coin_key, derived};
 
-use crate::hash::{LABEL, first_half, hashed_context};
-use report_frame::{CHECK_BYTES, TAG_BYTES, Value};
+use crate::hash::{first_half, hashed_context};
+use report_frame::{CHECK_BYTES, TAG_BYTES, Value, Version};
 use shamir_limbs::Key;
 
 /// All that a report of one layer commits to.
 #[derive(Debug, Drop, PartialEq, Eq)]
 pub struct Context {
+    /// The version, whose label all is derived under.
+    pub version: Version,
     /// The check of the context one layer up, and 32 zero bytes in the first layer.
     pub parent: [u8; CHECK_BYTES],
     pub epoch: u32,
@@ -53,25 +55,25 @@ pub(crate) fn context_key(context: &Context) -> Key
     ensures { result.bytes ≡ context_key context.now }
 {
     Key {
-        bytes: first_half(&hashed_context(&LABEL, KEY, context)),
+        bytes: first_half(&hashed_context(KEY, context)),
     }
 }
 
 pub(crate) fn context_tag(context: &Context) -> [u8; TAG_BYTES]
     ensures { result ≡ context_tag context.now }
 {
-    first_half(&hashed_context(&LABEL, TAG, context))
+    first_half(&hashed_context(TAG, context))
 }
 
 pub(crate) fn context_check(context: &Context) -> [u8; CHECK_BYTES]
     ensures { result ≡ context_check context.now }
 {
-    hashed_context(&LABEL, CHECK, context)
+    hashed_context(CHECK, context)
 }
 
 /// The key of the keystream that the coefficients are taken from.
 pub(crate) fn coin_key(context: &Context) -> [u8; 32]
     ensures { result ≡ coin_key context.now }
 {
-    hashed_context(&LABEL, COINS, context)
+    hashed_context(COINS, context)
 }

@@ -1,21 +1,30 @@
-// The labelled hash: SHA-256 over a label, one byte for the kind of what is derived, and a text.
+// The labelled hash: SHA-256 over the label of a version, one byte for the kind of what is derived, and a text.
 ghost use Rattle.std.specs.Prelude.{◌≡◌, take};
 ghost use Rattle.std.specs.Int.{w8, to_be_bytes};
-ghost use Rattle.adss_commit.specs.Derivation.{hashed, context_bytes};
+ghost use Rattle.adss_commit.specs.Derivation.{label, hashed, context_bytes};
 
 use crate::context::Context;
+use report_frame::Version;
 use sha2::{Digest, Sha256};
 use shamir_limbs::Key;
 
-pub(crate) const LABEL: [u8; 8] = *b"STARNEST";
+/// The label under which all is hashed that belongs to a version.
+fn label(version: Version) -> [u8; 8]
+    ensures { result ≡ label version }
+{
+    match version {
+        Version::One => *b"STARNEST",
+        Version::Two => *b"STARNES2",
+    }
+}
 
-/// The hash over a context.
-pub(crate) fn hashed_context(label: &[u8; 8], kind: u8, context: &Context) -> [u8; 32]
-    ensures { result ≡ hashed label.now kind (context_bytes context.now) }
+/// The hash over a context, under the label of its version.
+pub(crate) fn hashed_context(kind: u8, context: &Context) -> [u8; 32]
+    ensures { result ≡ hashed (label context.now.version) kind (context_bytes context.now) }
 {
     let value = context.value.as_slice();
     let mut hasher = Sha256::new();
-    hasher.update(label);
+    hasher.update(&label(context.version));
     hasher.update(&[kind]);
     hasher.update(&context.parent);
     hasher.update(&context.epoch.to_be_bytes());
@@ -26,13 +35,13 @@ pub(crate) fn hashed_context(label: &[u8; 8], kind: u8, context: &Context) -> [u
     hasher.finalize()
 }
 
-/// The hash over a key.
+/// The hash over a key, under the label of this version.
 #[tactic(auto, unfolding(crate::specs::Derivation::hashed))]
-pub(crate) fn hashed_key(label: &[u8; 8], kind: u8, key: &Key) -> [u8; 32]
-    ensures { result ≡ hashed label.now kind key.now.bytes }
+pub(crate) fn hashed_key(version: Version, kind: u8, key: &Key) -> [u8; 32]
+    ensures { result ≡ hashed (label version) kind key.now.bytes }
 {
     let mut hasher = Sha256::new();
-    hasher.update(label);
+    hasher.update(&label(version));
     hasher.update(&[kind]);
     hasher.update(&key.bytes);
     hasher.finalize()

@@ -1,7 +1,9 @@
+// What is derived from a key.
 ghost use Rattle.std.specs.Prelude.{◌≡◌};
 ghost use Rattle.adss_commit.specs.Derivation.{box_key_of, body_key_of, seal_key_of};
 
-use crate::hash::{LABEL, hashed_key};
+use crate::hash::hashed_key;
+use report_frame::Version;
 use shamir_limbs::Key;
 
 // The kinds of hashes over a key.
@@ -12,22 +14,22 @@ const BODY: u8 = 7;
 const SEAL: u8 = 8;
 
 /// The key of the keystream over the value.
-pub(crate) fn box_key(key: &Key) -> [u8; 32]
-    ensures { result ≡ box_key_of key.now.bytes }
+pub(crate) fn box_key(version: Version, key: &Key) -> [u8; 32]
+    ensures { result ≡ box_key_of version key.now.bytes }
 {
-    hashed_key(&LABEL, BOX, key)
+    hashed_key(version, BOX, key)
 }
 
 /// The key of the keystream over the bodies of reports that share this key.
-pub fn body_key(key: &Key) -> [u8; 32]
-    ensures { result ≡ body_key_of key.now.bytes }
+pub fn body_key(version: Version, key: &Key) -> [u8; 32]
+    ensures { result ≡ body_key_of version key.now.bytes }
 {
-    hashed_key(&LABEL, BODY, key)
+    hashed_key(version, BODY, key)
 }
 
 /// The key of the seals of reports that share this key.
-pub fn seal_key(key: &Key) -> [u8; 32]
-    ensures { result ≡ seal_key_of key.now.bytes }
+pub fn seal_key(version: Version, key: &Key) -> [u8; 32]
+    ensures { result ≡ seal_key_of version key.now.bytes }
 {
-    hashed_key(&LABEL, SEAL, key)
+    hashed_key(version, SEAL, key)
 }

@@ -11,7 +11,7 @@ mod polynomials;
 pub use boxes::{box_value, open_value};
 pub use context::{Context, Derived, derive};
 pub use keys::{body_key, seal_key};
-pub use polynomials::coefficients;
+pub use polynomials::{coefficients, coefficients_of};
 
 #[cfg(test)]
 mod tests;

@@ -1,26 +1,41 @@
+// The polynomials of a context.
 ghost use Rattle.std.specs.Prelude.{◌≡◌, ◌+◌, ◌≤◌, ◌%◌, ◌^◌, length, drop, IfOk};
 ghost use Rattle.byteorder.specs.Endian.{big_number};
 ghost use Rattle.chacha_stream.specs.Keystream.{keystream};
 ghost use Rattle.field61.specs.declared.TheConstants.{MODULUS};
-ghost use Rattle.report_frame.specs.declared.limits.TheConstants.{MAX_THRESHOLD};
-ghost use Rattle.adss_commit.specs.Derivation.{polynomials, zero_nonce};
+ghost use Rattle.report_frame.specs.Versions.{max_threshold};
+ghost use Rattle.adss_commit.specs.Derivation.{context_key, polynomials, zero_nonce};
 
 use crate::context::{Context, coin_key, context_key};
 use byteorder::{BigEndian, ByteOrder};
 use chacha_stream::xor_stream;
 use field61::Fe;
-use shamir_limbs::Coefficients;
+use shamir_limbs::{Coefficients, Key};
 use star_io::NoMemory;
 use std::alloc::Global;
 
 /// The three polynomials of a context. Its shares are their values.
 pub fn coefficients(alloc: Global, context: &Context) -> Result<Coefficients, NoMemory>
     requires low { 1 ≤ context.now.k }
-    requires high { context.now.k ≤ MAX_THRESHOLD }
+    requires high { context.now.k ≤ max_threshold context.now.version }
+    ensures { IfOk result (λ c. c ≡ polynomials context.now) }
+{
+    coefficients_of(alloc, context, &context_key(context))
+}
+
+/// The same for a caller that has the key of the context, which then isn't hashed again.
+pub fn coefficients_of(
+    alloc: Global,
+    context: &Context,
+    key: &Key,
+) -> Result<Coefficients, NoMemory>
+    requires low { 1 ≤ context.now.k }
+    requires high { context.now.k ≤ max_threshold context.now.version }
+    requires key { key.now.bytes ≡ context_key context.now }
     ensures { IfOk result (λ c. c ≡ polynomials context.now) }
 {
     let k = context.k as usize;
-    let mut made = Coefficients::of(alloc, &context_key(context), k)?;
+    let mut made = Coefficients::of(alloc, key, k)?;
     let bytes = stream_bytes(alloc, &coin_key(context), 24 * (k - 1))?;
     'powers: for i in 1..k {
         let place = 24 * (i - 1);

@@ -1,3 +1,3 @@
-pub mod Exclusive
-pub mod Words
+mod Exclusive
+mod Words
 pub mod StreamLaws

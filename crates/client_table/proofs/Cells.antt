@@ -1,11 +1,11 @@
 -- The cells of a record, and where it is bad.
-use Rattle.std.proofs.Common.{◌≡◌, ◌∙◌, ◌<◌, ◌≤◌, ◌||◌, ◌==◌, ◌+◌, ℕ, zero, suc, true, false, List, [], ◌∷◌, ◌++◌, length, take, Option, Some, None, refl, ap, sym, arith, inl, inr}
+use Rattle.std.proofs.Common.{◌≡◌, ◌∙◌, ◌<◌, ◌≤◌, ◌||◌, ◌==◌, ◌+◌, ℕ, zero, suc, true, false, List, [], ◌∷◌, ◌++◌, length, take, get_or, Option, Some, None, refl, ap, sym, arith, inl, inr}
 use Rattle.std.specs.Prelude.{nat_lt, is_some}
 use Rattle.std.proofs.lemmas.Bool.{cases_lt, le-ltb}
 use Rattle.std.proofs.lemmas.Bool.Decides.{nat_tests}
-use Rattle.report_frame.specs.declared.limits.TheConstants.{MAX_VALUE}
+use Rattle.report_frame.specs.declared.version.Version.{Version}
 use Rattle.csv.specs.Records.{field_at}
-use Rattle.client_table.specs.Table.{IsRow, is_bad_at, is_bad_cell}
+use Rattle.client_table.specs.Table.{IsRow, cells_of, is_bad_length, is_bad_at, is_bad_cell}
 
 -- a record has a cell at each place below its length
 field-there : (cells : List (List ℕ)) (i : ℕ) → i < length cells → (cell : List ℕ) × (field_at cells i ≡ Some cell)
@@ -28,47 +28,57 @@ gone-length cells i gone = elim (cases_lt i (length cells)) [
   | inr le ↦ omega arith
 ]
 
--- a record is bad before the width where it has no cell
-missing-cell : (width c : ℕ) (cells : List (List ℕ)) → field_at cells c ≡ None → c < width → is_bad_at width cells c ≡ true
-missing-cell width c cells gone lt =
-    let bad : nat_lt c width ≡ true = grind (arith, nat_tests) in
-    ap (is_bad_cell width c) gone ∙ bad
+-- a record is bad at a column where a cell is due and there is none
+pub missing-cell : (version : Version) (width c : ℕ) (cells : List (List ℕ)) → field_at cells c ≡ None → c < cells_of version width → is_bad_at version width cells c ≡ true
+missing-cell version width c cells gone lt =
+    let bad : nat_lt c (cells_of version width) ≡ true = grind (arith, nat_tests) in
+    ap (is_bad_cell version width c) gone ∙ bad
 
--- and at the width where it has one
-cell-behind : (width : ℕ) (cells : List (List ℕ)) (cell : List ℕ) → field_at cells width ≡ Some cell → is_bad_at width cells width ≡ true
-cell-behind width cells cell there =
-    let bad : ((width == width) || ((length cell == 0) || nat_lt MAX_VALUE (length cell))) ≡ true = grind (arith, nat_tests) in
-    ap (is_bad_cell width width) there ∙ bad
+-- and at the one behind the last where there is one
+pub cell-behind : (version : Version) (width : ℕ) (cells : List (List ℕ)) (cell : List ℕ) → field_at cells (cells_of version width) ≡ Some cell → is_bad_at version width cells (cells_of version width) ≡ true
+cell-behind version width cells cell there =
+    let last = cells_of version width in
+    let bad : ((last == last) || is_bad_length version width last (length cell)) ≡ true = grind (arith, nat_tests) in
+    ap (is_bad_cell version width last) there ∙ bad
 
--- a record that is good before the width and has no cell there is a row
-pub row-ends : (width : ℕ) (cells : List (List ℕ)) → ((k : ℕ) → k < width → is_bad_at width cells k ≡ false) → field_at cells width ≡ None → IsRow width cells
-row-ends width cells below gone = record {
-  good = λ c. elim (cases_lt c width) [
+-- a record that is good up to its last column and has no cell behind it is a row
+pub row-ends : (version : Version) (width : ℕ) (cells : List (List ℕ)) → ((k : ℕ) → k < cells_of version width → is_bad_at version width cells k ≡ false) → field_at cells (cells_of version width) ≡ None
+    → IsRow version width cells
+row-ends version width cells below gone = record {
+  good = λ c. elim (cases_lt c (cells_of version width)) [
     | inl lt ↦ below c lt
-    | inr le ↦ ap (is_bad_cell width c) (field-gone cells c (let short = gone-length cells width gone in omega arith)) ∙ le-ltb c width le
+    | inr le ↦ ap (is_bad_cell version width c) (field-gone cells c (let short = gone-length cells (cells_of version width) gone in omega arith)) ∙ le-ltb c (cells_of version width) le
   ];
 }
 
--- a record that is good at the width has no cell there
-good-gone : (width : ℕ) (cells : List (List ℕ)) (o : Option (List ℕ)) → field_at cells width ≡ o → is_bad_at width cells width ≡ false → o ≡ None
-good-gone width cells None is good = refl
-good-gone width cells (Some cell) is good =
-    let bad : true ≡ false = sym (cell-behind width cells cell is) ∙ good in cc
+-- a record that is good behind its last column has no cell there
+good-gone : (version : Version) (width : ℕ) (cells : List (List ℕ)) (o : Option (List ℕ)) → field_at cells (cells_of version width) ≡ o → is_bad_at version width cells (cells_of version width) ≡ false → o ≡ None
+good-gone version width cells None is good = refl
+good-gone version width cells (Some cell) is good =
+    let bad : true ≡ false = sym (cell-behind version width cells cell is) ∙ good in cc
 
--- a record that is good up to the width is a row
-pub good-row : (width : ℕ) (cells : List (List ℕ)) → ((k : ℕ) → k < width + 1 → is_bad_at width cells k ≡ false) → IsRow width cells
-good-row width cells each =
-    row-ends width cells (λ k lt. each k (omega arith)) (good-gone width cells (field_at cells width) refl (each width (omega arith)))
+-- a record that is good up to there is a row
+pub good-row : (version : Version) (width : ℕ) (cells : List (List ℕ)) → ((k : ℕ) → k < cells_of version width + 1 → is_bad_at version width cells k ≡ false) → IsRow version width cells
+good-row version width cells each =
+    row-ends version width cells (λ k lt. each k (omega arith)) (good-gone version width cells (field_at cells (cells_of version width)) refl (each (cells_of version width) (omega arith)))
 
--- a row has as many cells as the table is wide
-pub row-length : (width : ℕ) (cells : List (List ℕ)) → IsRow width cells → length cells ≡ width
-row-length width cells row =
-    let high : length cells ≤ width = gone-length cells width (good-gone width cells (field_at cells width) refl (row.good width)) in
-    elim (cases_lt (length cells) width) [
+-- a row has as many cells as are due
+pub row-length : (version : Version) (width : ℕ) (cells : List (List ℕ)) → IsRow version width cells → length cells ≡ cells_of version width
+row-length version width cells row =
+    let due = cells_of version width in
+    let high : length cells ≤ due = gone-length cells due (good-gone version width cells (field_at cells due) refl (row.good due)) in
+    elim (cases_lt (length cells) due) [
       | inl lt ↦
-          let bad : true ≡ false = sym (missing-cell width (length cells) cells (field-gone cells (length cells) (omega arith)) lt) ∙ row.good (length cells) in cc
+          let bad : true ≡ false = sym (missing-cell version width (length cells) cells (field-gone cells (length cells) (omega arith)) lt) ∙ row.good (length cells) in cc
       | inr low ↦ omega arith
     ]
+
+-- a cell that is there is the one at its place
+pub there-at : (cells : List (List ℕ)) (n : ℕ) (cell : List ℕ) → field_at cells n ≡ Some cell → get_or cells n [] ≡ cell
+unfolding field_at
+there-at [] n cell is = cc is
+there-at (f ∷ fs) zero cell is = cc is
+there-at (f ∷ fs) (suc n) cell is = there-at fs n cell is
 
 -- the first cells and the one behind them
 pub take-cell : (cells : List (List ℕ)) (n : ℕ) (cell : List ℕ) → field_at cells n ≡ Some cell → take (suc n) cells ≡ take n cells ++ cell ∷ []

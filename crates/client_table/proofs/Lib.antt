@@ -1,5 +1,6 @@
-pub mod Between
-pub mod LeftRecords
+mod Between
+mod LeftRecords
 pub mod Cells
 pub mod Places
-pub mod Outcomes
+mod Outcomes
+mod BadPlaceLaws

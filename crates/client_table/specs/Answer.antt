@@ -1,16 +1,17 @@
 -- What is answered of the records of a text.
 use Rattle.std.specs.Prelude.{◌≡◌, ◌<◌, ◌≤◌, ◌+◌, ℕ, List, Result, Ok, Err, ⊤}
+use Rattle.report_frame.specs.declared.version.Version.{Version}
 use Rattle.client_table.specs.Table.{HasTooManyRows, IsBadTable, IsTable}
 use Rattle.client_table.specs.declared.read.TableError.{TableError}
 use Rattle.client_table.specs.declared.read.TableError.TheVariants.{BadTable, NoMemory, TooMany}
 use Rattle.client_table.specs.declared.read.TheConstants.{MAX_ROWS}
 
--- an answer has its cause; want of memory needs none
-abbrev pub IsAnswer : (width : ℕ) → List (List (List ℕ)) → Result (List (List (List ℕ))) TableError → Type 0
-IsAnswer width rows (Ok table) = (table ≡ rows) × IsTable width rows
-IsAnswer width rows (Err TooMany) = HasTooManyRows rows
-IsAnswer width rows (Err (BadTable row column)) = IsBadTable width rows row column
-IsAnswer width rows (Err NoMemory) = ⊤
+-- an answer has its cause: a table is the wanted one, and want of memory needs none
+abbrev pub IsAnswer : {Table : Type 0} → Version → (width : ℕ) → List (List (List ℕ)) → (wanted : Table) → Result Table TableError → Type 0
+IsAnswer version width rows wanted (Ok table) = (table ≡ wanted) × IsTable version width rows
+IsAnswer version width rows wanted (Err TooMany) = HasTooManyRows rows
+IsAnswer version width rows wanted (Err (BadTable row column)) = IsBadTable version width rows row column
+IsAnswer version width rows wanted (Err NoMemory) = ⊤
 
 -- why there is no table, where this is the first bad place and so many records follow its record
 abbrev pub IsRefusal : (row column rest : ℕ) → TableError → Type 0

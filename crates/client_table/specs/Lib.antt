@@ -1,3 +1,4 @@
 pub mod Table
+pub mod BadPlace
 pub mod Left
 pub mod Answer

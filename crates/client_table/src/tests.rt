@@ -1,6 +1,5 @@
 use super::*;
-use nest_client::Table;
-use report_frame::Value;
+use report_frame::{Table, Value};
 use std::alloc::{AllocError, Global};
 use std::test::*;
 
@@ -53,6 +52,48 @@ fn rows_are_read(rt: HostRuntime) {
     let mut text = [b'x'; 66];
     text[64] = b',';
     assert!(rt; reads(rt.alloc(), &text, &[[&longest, b"x"]]));
+}
+
+#[test]
+fn rows_with_extra_bytes_are_read(rt: HostRuntime) -> Result<(), Fail> {
+    let alloc = rt.alloc();
+    let table = read_table2(alloc, b"red,blue,abc\ngreen,pink,\n", 2).map_err(|_| AllocError)?;
+    assert_eq!(rt; table.len(), 2);
+    assert!(rt; table.row(0).len() == 2);
+    assert_eq!(rt; table.row(0)[1].as_slice(), b"blue".as_slice());
+    assert_eq!(rt; table.extra(0).as_slice(), b"abc".as_slice());
+    assert_eq!(rt; table.row(1)[0].as_slice(), b"green".as_slice());
+    assert_eq!(rt; table.extra(1).as_slice(), b"".as_slice());
+    Ok(())
+}
+
+#[test]
+fn the_first_bad_place_of_version_2_is_found(rt: HostRuntime) {
+    let mut most = [b'x'; 4 + 255];
+    most[..4].copy_from_slice(b"red,");
+    let mut more = [b'x'; 4 + 256];
+    more[..4].copy_from_slice(b"red,");
+    let cases: [(&[u8], usize, Option<(u32, u32)>); 10] = [
+        (b"red", 1, Some((0, 1))),
+        (b"red,a,b", 1, Some((0, 2))),
+        (&most, 1, None),
+        (&more, 1, Some((0, 1))),
+        (b"red,", 1, None),
+        (b"red,a\n,a", 1, Some((1, 0))),
+        (b"red,a\nblue,,", 1, Some((1, 2))),
+        (b"1,2,3,4,5,6,7,8,9,10,11,12,13,14,15,16,", 16, None),
+        (b"1,2,3,4,5,6,7,8,9,10,11,12,13,14,15,16", 16, Some((0, 16))),
+        (
+            b"1,2,3,4,5,6,7,8,9,10,11,12,13,14,15,16,,",
+            16,
+            Some((0, 17)),
+        ),
+    ];
+    for (text, width, place) in cases {
+        let found = read_table2(rt.alloc(), text, width).err();
+        let wanted = place.map(|(row, column)| TableError::BadTable { row, column });
+        assert!(rt; found == wanted, "{text:?}");
+    }
 }
 
 #[test]

@@ -7,11 +7,12 @@ use Rattle.command_words.specs.Numbers.{number_in}
 use Rattle.command_words.specs.Options.{Text, Pair, value_of}
 use Rattle.command_words.specs.Seed.{seed_of}
 use Rattle.command_words.specs.Thresholds.{thresholds_of}
-use Rattle.command_words.specs.Make.{make_by, make_of}
+use Rattle.command_words.specs.Make.{make_by, make_of, version_of}
 use Rattle.command_words.specs.Verb.{verb_of, command_by}
 use Rattle.command_words.specs.Words.{HasThresholds, command_of, command_with}
 use Rattle.command_words.specs.declared.command.Command.{Command}
 use Rattle.command_words.specs.declared.command.Command.TheVariants.{Make}
+use Rattle.report_frame.specs.declared.version.Version.{Version}
 use Rattle.command_words.specs.declared.verb.Verb.{Verb}
 use Rattle.command_words.specs.declared.verb.Verb.TheVariants as verb
 use Rattle.command_words.specs.declared.command.WordsError.{WordsError}
@@ -53,28 +54,36 @@ answer-usage wanted (Some command) answer same is usage = let bad : Ok command �
 
 -- options of `make` give good thresholds
 make_of-good : (options : List Pair) (command : Command) → make_of options ≡ Some command → HasThresholds command
-make_of-good options command is =
-    go (option_and_then (number_in 0 (2 ^ 32 - 1)) (value_of options (codes "epoch"))) (value_of options (codes "thresholds"))
-    (option_map_or (λ text. option_map Some (seed_of text)) (value_of options (codes "seed")) (Some None)) command is
+make_of-good options command is = at (version_of options) is
   where
-    made : (epoch : ℕ) (text : Text) (thresholds : Option (List ℕ)) (seed : Option (Option (List ℕ))) (command : Command) → thresholds_of text ≡ thresholds
-        → make_by (Some epoch) thresholds seed ≡ Some command → HasThresholds command
-    made epoch text None seed command of_text is = cc is
-    made epoch text (Some thresholds) None command of_text is = cc is
-    made epoch text (Some thresholds) (Some seed) command of_text is =
-        let it : Make epoch thresholds seed ≡ command = cc is in
-        subst HasThresholds it (thresholds_of-good text thresholds of_text)
+    epoch : Option ℕ
+    epoch = option_and_then (number_in 0 (2 ^ 32 - 1)) (value_of options (codes "epoch"))
 
-    go : (epoch : Option ℕ) (text : Option Text) (seed : Option (Option (List ℕ))) (command : Command)
-        → make_by epoch (option_and_then thresholds_of text) seed ≡ Some command → HasThresholds command
-    go None text seed command is = cc is
-    go (Some epoch) None seed command is = cc is
-    go (Some epoch) (Some text) seed command is = made epoch text (thresholds_of text) seed command refl is
+    seed : Option (Option (List ℕ))
+    seed = option_map_or (λ text. option_map Some (seed_of text)) (value_of options (codes "seed")) (Some None)
+
+    made : (version : Version) (epoch : ℕ) (text : Text) (thresholds : Option (List ℕ)) (seed : Option (Option (List ℕ))) (command : Command)
+        → thresholds_of version text ≡ thresholds → make_by version (Some epoch) thresholds seed ≡ Some command → HasThresholds command
+    made version epoch text None seed command of_text is = cc is
+    made version epoch text (Some thresholds) None command of_text is = cc is
+    made version epoch text (Some thresholds) (Some seed) command of_text is =
+        let it : Make epoch version thresholds seed ≡ command = cc is in
+        subst HasThresholds it (thresholds_of-good version text thresholds of_text)
+
+    go : (version : Version) (epoch : Option ℕ) (text : Option Text) (seed : Option (Option (List ℕ))) (command : Command)
+        → make_by version epoch (option_and_then (thresholds_of version) text) seed ≡ Some command → HasThresholds command
+    go version None text seed command is = cc is
+    go version (Some epoch) None seed command is = cc is
+    go version (Some epoch) (Some text) seed command is = made version epoch text (thresholds_of version text) seed command refl is
+
+    at : (version : Option Version) → option_and_then (λ v. make_by v epoch (option_and_then (thresholds_of v) (value_of options (codes "thresholds"))) seed) version ≡ Some command → HasThresholds command
+    at None is = cc is
+    at (Some version) is = go version epoch (value_of options (codes "thresholds")) seed command is
 
 -- options of a verb do
 verb-good : (verb : Verb) (options : List Pair) (command : Command) → command_by verb options ≡ Some command → HasThresholds command
 verb-good verb.Make options command is = make_of-good options command is
-verb-good other options (Make epoch thresholds seed) is = cc is
+verb-good other options (Make epoch version thresholds seed) is = cc is
 verb-good other options command is = tt
 
 -- and so does an answer

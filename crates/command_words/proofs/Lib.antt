@@ -1,8 +1,8 @@
-pub mod NumberLemmas
-pub mod OptionReading
-pub mod ParseLemmas
-pub mod VerbRules
-pub mod VerbWalk
-pub mod OptionPairs
-pub mod ThresholdLemmas
-pub mod CommandLemmas
+mod NumberLemmas
+mod OptionReading
+mod ParseLemmas
+mod VerbRules
+mod VerbWalk
+mod OptionPairs
+mod ThresholdLemmas
+mod CommandLemmas

@@ -8,33 +8,34 @@ use Rattle.std.proofs.lemmas.List.{get_or-map, length-map}
 use Rattle.std.proofs.lemmas.List.Folds.{list_all_at}
 use Rattle.std.proofs.lemmas.List.Splits.{length-slice_split}
 use Rattle.report_frame.specs.Thresholds.{AreThresholds}
-use Rattle.report_frame.specs.declared.limits.TheConstants.{MIN_THRESHOLD, MAX_THRESHOLD}
+use Rattle.report_frame.specs.Versions.{max_layers, max_threshold}
+use Rattle.report_frame.specs.declared.limits.TheConstants.{MIN_THRESHOLD}
+use Rattle.report_frame.specs.declared.version.Version.{Version}
 use Rattle.command_words.specs.Numbers.{is_number, is_number_in, number_in}
 use Rattle.command_words.specs.Thresholds.{is_threshold, parts_of, thresholds_of}
-use Rattle.command_words.specs.declared.thresholds.TheConstants.{MAX_LAYERS}
 
 -- where all parts were read, these are the thresholds
-pub thresholds-read : (text : List ℕ) (parts : List (List ℕ)) (values : List ℕ) → parts ≡ parts_of text → length parts ≤ MAX_LAYERS
-    → list_all is_threshold parts ≡ true → values ≡ map (digits_value 10) parts → Some values ≡ thresholds_of text
-thresholds-read text parts values are few all is =
-    let fits : nat_le (length (parts_of text)) MAX_LAYERS ≡ true = le-leb (length (parts_of text)) MAX_LAYERS (subst (λ (p : List (List ℕ)). length p ≤ MAX_LAYERS) are few) in
-    let good : list_all is_threshold (parts_of text) ≡ true = sym (ap (list_all is_threshold) are) ∙ all in
+pub thresholds-read : (version : Version) (text : List ℕ) (parts : List (List ℕ)) (values : List ℕ) → parts ≡ parts_of text → length parts ≤ (max_layers version)
+    → list_all (is_threshold version) parts ≡ true → values ≡ map (digits_value 10) parts → Some values ≡ thresholds_of version text
+thresholds-read version text parts values are few all is =
+    let fits : nat_le (length (parts_of text)) (max_layers version) ≡ true = le-leb (length (parts_of text)) (max_layers version) (subst (λ (p : List (List ℕ)). length p ≤ (max_layers version)) are few) in
+    let good : list_all (is_threshold version) (parts_of text) ≡ true = sym (ap (list_all (is_threshold version)) are) ∙ all in
     rw (fits, good) (ap (λ (v : List ℕ). Some v) (is ∙ ap (map (digits_value 10)) are))
 
--- nine parts are too many
-pub thresholds-many : (text : List ℕ) → MAX_LAYERS < length (parts_of text) → None ≡ thresholds_of text
-thresholds-many text many =
-    elim (cases_Bool (nat_le (length (parts_of text)) MAX_LAYERS)) [
-      | inl fits ↦ let few = leb-true (length (parts_of text)) MAX_LAYERS fits in absurd (omega arith)
+-- more parts than layers are too many
+pub thresholds-many : (version : Version) (text : List ℕ) → (max_layers version) < length (parts_of text) → None ≡ thresholds_of version text
+thresholds-many version text many =
+    elim (cases_Bool (nat_le (length (parts_of text)) (max_layers version))) [
+      | inl fits ↦ let few = leb-true (length (parts_of text)) (max_layers version) fits in absurd (omega arith)
       | inr e ↦ rw e refl
     ]
 
 -- one part that is no threshold spoils the rest
-pub thresholds-bad : (text : List ℕ) (i : ℕ) (part : List ℕ) → i < length (parts_of text) → part ≡ get_or (parts_of text) i part
-    → is_threshold part ≡ false → None ≡ thresholds_of text
-thresholds-bad text i part within is bad =
-    let spoilt : list_all is_threshold (parts_of text) ≡ false = list_all_at is_threshold (parts_of text) i part within (sym (ap is_threshold is) ∙ bad) in
-    rw spoilt (none (nat_le (length (parts_of text)) MAX_LAYERS) (map (digits_value 10) (parts_of text)))
+pub thresholds-bad : (version : Version) (text : List ℕ) (i : ℕ) (part : List ℕ) → i < length (parts_of text) → part ≡ get_or (parts_of text) i part
+    → (is_threshold version) part ≡ false → None ≡ thresholds_of version text
+thresholds-bad version text i part within is bad =
+    let spoilt : list_all (is_threshold version) (parts_of text) ≡ false = list_all_at (is_threshold version) (parts_of text) i part within (sym (ap (is_threshold version) is) ∙ bad) in
+    rw spoilt (none (nat_le (length (parts_of text)) (max_layers version)) (map (digits_value 10) (parts_of text)))
   where
     none : (b : Bool) (values : List ℕ) → None ≡ (if b && false then Some values else None)
     none true values = refl
@@ -56,37 +57,37 @@ number_in-bounds low high text good =
     (leb-true low (digits_value 10 text) least.1, leb-true (digits_value 10 text) high parts.1)
 
 -- the thresholds of a text are good
-pub thresholds_of-good : (text values : List ℕ) → thresholds_of text ≡ Some values → AreThresholds values
-thresholds_of-good text values is =
-    elim (cases_Bool (nat_le (length (parts_of text)) MAX_LAYERS && list_all is_threshold (parts_of text))) [
+pub thresholds_of-good : (version : Version) (text values : List ℕ) → thresholds_of version text ≡ Some values → AreThresholds version values
+thresholds_of-good version text values is =
+    elim (cases_Bool (nat_le (length (parts_of text)) (max_layers version) && list_all (is_threshold version) (parts_of text))) [
       | inr e ↦ let bad : None ≡ Some values = rw e at is in cc bad
       | inl e ↦
-          let parts = and_parts (nat_le (length (parts_of text)) MAX_LAYERS) (list_all is_threshold (parts_of text)) e in
+          let parts = and_parts (nat_le (length (parts_of text)) (max_layers version)) (list_all (is_threshold version) (parts_of text)) e in
           let read : Some (map (digits_value 10) (parts_of text)) ≡ Some values = rw e at is in
           let values_are : map (digits_value 10) (parts_of text) ≡ values = cc read in
-          subst AreThresholds values_are (good parts.0 parts.1)
+          subst (AreThresholds version) values_are (good parts.0 parts.1)
     ]
   where
-    at : (all : list_all is_threshold (parts_of text) ≡ true) (i : ℕ) → i < length (parts_of text) → is_threshold (get_or (parts_of text) i []) ≡ true
+    at : (all : list_all (is_threshold version) (parts_of text) ≡ true) (i : ℕ) → i < length (parts_of text) → (is_threshold version) (get_or (parts_of text) i []) ≡ true
     at all i within =
-        elim (cases_Bool (is_threshold (get_or (parts_of text) i []))) [
+        elim (cases_Bool ((is_threshold version) (get_or (parts_of text) i []))) [
           | inl e ↦ e
-          | inr e ↦ let bad : true ≡ false = sym all ∙ list_all_at is_threshold (parts_of text) i [] within e in cc bad
+          | inr e ↦ let bad : true ≡ false = sym all ∙ list_all_at (is_threshold version) (parts_of text) i [] within e in cc bad
         ]
 
-    bounds : (all : list_all is_threshold (parts_of text) ≡ true) (i : ℕ) → i < length (map (digits_value 10) (parts_of text))
-        → (MIN_THRESHOLD ≤ slice_index (map (digits_value 10) (parts_of text)) i) × (slice_index (map (digits_value 10) (parts_of text)) i ≤ MAX_THRESHOLD)
+    bounds : (all : list_all (is_threshold version) (parts_of text) ≡ true) (i : ℕ) → i < length (map (digits_value 10) (parts_of text))
+        → (MIN_THRESHOLD ≤ slice_index (map (digits_value 10) (parts_of text)) i) × (slice_index (map (digits_value 10) (parts_of text)) i ≤ (max_threshold version))
     bounds all i within =
         let inside : i < length (parts_of text) = omega (arith, length-map (parts_of text) (digits_value 10)) in
         let value = get_or-map (digits_value 10) (parts_of text) i [] 0 inside in
-        let (low, high) = number_in-bounds MIN_THRESHOLD MAX_THRESHOLD (get_or (parts_of text) i []) (at all i inside) in
+        let (low, high) = number_in-bounds MIN_THRESHOLD (max_threshold version) (get_or (parts_of text) i []) (at all i inside) in
         (omega (arith, value), omega (arith, value))
 
-    good : nat_le (length (parts_of text)) MAX_LAYERS ≡ true → list_all is_threshold (parts_of text) ≡ true → AreThresholds (map (digits_value 10) (parts_of text))
+    good : nat_le (length (parts_of text)) (max_layers version) ≡ true → list_all (is_threshold version) (parts_of text) ≡ true → AreThresholds version (map (digits_value 10) (parts_of text))
     good few all =
         let size = length-map (parts_of text) (digits_value 10) in
         let some = length-slice_split (λ byte. byte == 44) text in
-        let most : length (parts_of text) ≤ MAX_LAYERS = leb-true (length (parts_of text)) MAX_LAYERS few in
+        let most : length (parts_of text) ≤ (max_layers version) = leb-true (length (parts_of text)) (max_layers version) few in
         record {
           some = omega (arith, size, some);
           few = omega (arith, size, most);

@@ -5,4 +5,5 @@ pub mod Seed
 pub mod Thresholds
 pub mod Make
 pub mod Verb
+pub mod Version
 pub mod Words

@@ -18,5 +18,5 @@ command_of (word ∷ words) = option_and_then (λ verb. command_with verb words)
 
 -- where a command has thresholds, they are good
 abbrev pub HasThresholds : Command → Type 0
-HasThresholds (Make epoch thresholds seed) = AreThresholds thresholds
+HasThresholds (Make epoch version thresholds seed) = AreThresholds version thresholds
 HasThresholds command = ⊤

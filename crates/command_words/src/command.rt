@@ -8,6 +8,7 @@ use crate::options::Options;
 use crate::thresholds::Thresholds;
 use crate::verb::Verb;
 use crate::words::Words;
+use report_frame::Version;
 use std::alloc::{AllocError, Global};
 
 /// What the program is asked to do.
@@ -18,6 +19,8 @@ pub enum Command {
     /// Reads a table, and prints the stream of the reports of its rows.
     Make {
         epoch: u32,
+        /// That of all reports.
+        version: Version,
         /// One for each column.
         thresholds: Thresholds,
         /// Of it come the coins of all clients.

@@ -8,6 +8,7 @@ mod options;
 mod seed;
 mod thresholds;
 mod verb;
+mod version;
 mod words;
 
 pub use command::{Command, WordsError, words_of};

@@ -1,4 +1,5 @@
 use crate::{Command, Words, WordsError, words_of};
+use report_frame::Version;
 use star_io::NoMemory;
 use std::alloc::Global;
 use std::test::*;
@@ -24,6 +25,7 @@ fn makes(
     alloc: Global,
     line: &str,
     epoch: u32,
+    version: Version,
     thresholds: &[u16],
     seed: Option<[u8; 32]>,
 ) -> Result<bool, NoMemory> {
@@ -31,16 +33,22 @@ fn makes(
         Ok(
             Command::Make {
                 epoch: got_epoch,
+                version: got_version,
                 thresholds: got,
                 seed: got_seed,
             },
-        ) => Ok(got_epoch == epoch && got.as_slice() == thresholds && got_seed == seed),
+        ) => Ok(
+            got_epoch == epoch
+                && got_version == version
+                && got.as_slice() == thresholds
+                && got_seed == seed,
+        ),
         _ => Ok(false),
     }
 }
 
 // Lines of words that give no command.
-const FAULTY_LINES: [&str; 51] = [
+const FAULTY_LINES: [&str; 60] = [
     "",
     "look",
     "Check",
@@ -90,6 +98,15 @@ const FAULTY_LINES: [&str; 51] = [
     "make --epoch 1 --thresholds 2 -h",
     "make --epoch 1 --thresholds 2 --help",
     "make --epoch 1 --thresholds 2 --version",
+    "make --epoch 1 --thresholds 2 --version=",
+    "make --epoch 1 --thresholds 2 --version 3",
+    "make --epoch 1 --thresholds 2 --version 01",
+    "make --epoch 1 --thresholds 2 --version 2 --version 2",
+    "make --epoch 1 --thresholds 2,2,2,2,2,2,2,2,2 --version 1",
+    "make --epoch 1 --thresholds 513 --version 1",
+    "make --epoch 1 --thresholds 2,2,2,2,2,2,2,2,2,2,2,2,2,2,2,2,2 --version 2",
+    "make --epoch 1 --thresholds 4097 --version 2",
+    "make --epoch 1 --thresholds 1 --version 2",
     "make help --epoch 1 --thresholds 2",
     "--epoch 1 make --thresholds 2",
 ];
@@ -138,8 +155,24 @@ fn options_of_make(rt: HostRuntime) -> Result<(), Fail> {
             &[2, 3, 4, 5, 6, 7, 8, 512],
         ),
     ] {
-        assert!(rt; makes(alloc, line, epoch, thresholds, None)?, "{line}");
+        assert!(rt;
+            makes(alloc, line, epoch, Version::One, thresholds, None)?,
+            "{line}"
+        );
     }
+    Ok(())
+}
+
+#[test]
+fn versions_of_make(rt: HostRuntime) -> Result<(), Fail> {
+    let alloc = rt.alloc();
+    let most = &[2, 3, 4, 5, 6, 7, 8, 9, 10, 11, 12, 13, 14, 15, 16, 4096];
+    let line = "make --version=2 --epoch 1 --thresholds 2,3,4,5,6,7,8,9,10,11,12,13,14,15,16,4096";
+    assert!(rt; makes(alloc, line, 1, Version::Two, most, None)?);
+    let line = "make --epoch 1 --thresholds 513 --version 2";
+    assert!(rt; makes(alloc, line, 1, Version::Two, &[513], None)?);
+    let line = "make --epoch 1 --thresholds 512 --version 1";
+    assert!(rt; makes(alloc, line, 1, Version::One, &[512], None)?);
     Ok(())
 }
 
@@ -154,7 +187,10 @@ fn seeds_in_either_case(rt: HostRuntime) -> Result<(), Fail> {
         let mut seed = [0; 32];
         seed[..8].copy_from_slice(&[0x01, 0x23, 0x45, 0x67, 0x89, 0xab, 0xcd, 0xef]);
         seed[24..].copy_from_slice(&[0x01, 0x23, 0x45, 0x67, 0x89, 0xab, 0xcd, 0xef]);
-        assert!(rt; makes(alloc, &line, 1, &[2], Some(seed))?, "{line}");
+        assert!(rt;
+            makes(alloc, &line, 1, Version::One, &[2], Some(seed))?,
+            "{line}"
+        );
     }
     Ok(())
 }

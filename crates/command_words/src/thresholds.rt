@@ -1,16 +1,14 @@
 ghost use Rattle.std.specs.Prelude.{◌≡◌, ◌<◌, ◌≤◌, ◌++◌, ◌∷◌, [], length};
 ghost use Rattle.command_words.specs.Thresholds.{thresholds_of};
-ghost use Rattle.command_words.specs.declared.thresholds.TheConstants.{MAX_LAYERS};
+ghost use Rattle.report_frame.specs.Versions.{max_layers};
+ghost use Rattle.report_frame.specs.declared.limits.TheConstants.{MAX_LAYERS};
 
 use crate::numbers::number_in;
 use arrayvec::ArrayVec;
-use report_frame::{MAX_LEVEL, MAX_THRESHOLD, MIN_THRESHOLD};
+use report_frame::{MAX_LAYERS, MAX_LEVEL_ONE, MAX_LEVEL_TWO, MIN_THRESHOLD, Version};
 use std::marker::Model;
 
-/// The most layers of a report.
-pub const MAX_LAYERS: usize = MAX_LEVEL as usize + 1;
-
-/// A threshold for each of at most 8 layers, held in place.
+/// A threshold for each of at most 16 layers, held in place.
 #[derive(Clone, Debug, Drop, PartialEq, Eq)]
 pub struct Thresholds {
     numbers: ArrayVec<u16, MAX_LAYERS>,
@@ -18,7 +16,7 @@ pub struct Thresholds {
 
 impl Model for Thresholds {
     ghost use Rattle.std.specs.Prelude.{ℕ, ◌≤◌, List, length};
-    ghost use Rattle.command_words.specs.declared.thresholds.TheConstants.{MAX_LAYERS};
+    ghost use Rattle.report_frame.specs.declared.limits.TheConstants.{MAX_LAYERS};
 
     ghost Value = { List ℕ };
 
@@ -56,17 +54,31 @@ impl Thresholds {
     }
 }
 
-/// The thresholds of a text, where its parts between commas are thresholds and at most 8.
-pub fn thresholds_of(text: &str) -> Option<Thresholds>
-    ensures { result ≡ thresholds_of text.now }
+/// The thresholds of a text, where its parts between commas are thresholds of this version, and no
+/// more than a report of it has layers.
+pub fn thresholds_of(version: Version, text: &str) -> Option<Thresholds>
+    ensures { result ≡ thresholds_of version text.now }
 {
+    let most = max_layers(version);
+    let high = version.max_threshold();
     let mut thresholds = Thresholds::new();
     for part in text.split(',') {
-        if thresholds.as_slice().len() == MAX_LAYERS {
+        if thresholds.as_slice().len() == most {
             return None;
         }
-        let threshold = number_in(part, u32::from(MIN_THRESHOLD), u32::from(MAX_THRESHOLD))?;
+        let threshold = number_in(part, u32::from(MIN_THRESHOLD), u32::from(high))?;
         thresholds.push(threshold as u16);
     }
     Some(thresholds)
+}
+
+// The most layers of a report of this version.
+fn max_layers(version: Version) -> usize
+    ensures layers { result ≡ max_layers version }
+    ensures room { result ≤ MAX_LAYERS }
+{
+    match version {
+        Version::One => usize::from(MAX_LEVEL_ONE) + 1,
+        Version::Two => usize::from(MAX_LEVEL_TWO) + 1,
+    }
 }

@@ -19,7 +19,7 @@ pub enum Verb {
 const NO_NAMES: [&str; 0] = [];
 
 // The names of the options of `make`.
-const MAKE_NAMES: [&str; 3] = ["epoch", "thresholds", "seed"];
+const MAKE_NAMES: [&str; 4] = ["epoch", "version", "thresholds", "seed"];
 
 impl Verb {
     /// The verb of a word.

@@ -1,11 +1,11 @@
-pub mod Binomial
-pub mod Computed
-pub mod Divisors
-pub mod Euclid
-pub mod Fermat
+mod Binomial
+mod Computed
+mod Divisors
+mod Euclid
+mod Fermat
 pub mod FieldLaws
-pub mod Modulus
-pub mod Pocklington
-pub mod Powers
-pub mod Trial
+mod Modulus
+mod Pocklington
+mod Powers
+mod Trial
 pub mod Totals

@@ -1,8 +1,8 @@
-pub mod Steps
-pub mod Forwards
-pub mod Counting
-pub mod Choice
+mod Steps
+mod Forwards
+mod Counting
+mod Choice
 pub mod Decoded
 pub mod Finding
 pub mod Search
-pub mod Rows
+mod Rows

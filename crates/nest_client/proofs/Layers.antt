@@ -1,67 +1,56 @@
 -- Coins, seals and shares of a layer.
-use Rattle.std.proofs.Common.{◌≡◌, ◌∙◌, ◌≤◌, ℕ, ◌+◌, ◌-◌, List, [], ◌++◌, length, take, drop, get_or, slice_index, slice_range, refl, ap, ap₂, subst, sym, arith}
-use Rattle.std.proofs.lemmas.List.{take_at, drop_at, take_all, length-drop}
-use Rattle.chacha_stream.specs.Keystream.{keystream}
-use Rattle.chacha_stream.proofs.StreamLaws.{keystream_length, split}
+use Rattle.std.proofs.Common.{◌≡◌, ◌∙◌, ◌≤◌, ℕ, ◌+◌, ◌-◌, List, [], ◌∷◌, ◌++◌, length, take, drop, replicate, get_or, slice_index, slice_range, refl, ap, ap₂, sym, append_assoc, arith}
+use Rattle.std.proofs.lemmas.List.{take_at, drop_at, take_all, length-drop, take-append-drop, take-replicate}
+use Rattle.chacha_stream.specs.Keystream.{keystream, xor_bytes}
+use Rattle.chacha_stream.proofs.StreamLaws.{keystream_length, keystream_from_zeros, split}
 use Rattle.field61.specs.Field.{field_sum}
 use Rattle.field61.proofs.FieldLaws.{sum_below, sum_zero}
-use Rattle.report_frame.specs.Format.{spelling}
-use Rattle.report_frame.specs.Frame.{Fields, IsFrame, frame, entries, sealed_part}
-use Rattle.report_frame.specs.Laws.{InRange}
-use Rattle.report_frame.proofs.FrameLaws.{has_frame, in_range, frame_length, sealed_then_seal, sealed_part_of_frame}
+use Rattle.report_frame.specs.declared.limits.TheConstants.{MAX_LAYERS, MAX_FRAME_ONE}
+use Rattle.report_frame.specs.declared.version.Version.{Version}
+use Rattle.report_frame.specs.declared.version.Version.TheVariants.{One, Two}
+use Rattle.report_frame.specs.Versions.{max_layers, max_frame}
+use Rattle.report_frame.specs.Frame.{Fields, IsFrame, sealed_part}
+use Rattle.report_frame.proofs.FrameLaws.{sealed_then_seal}
 use Rattle.shamir_limbs.specs.Coefficients.{values}
 use Rattle.adss_commit.specs.declared.context.Context.{Context}
 use Rattle.adss_commit.specs.declared.context.Derived.{Derived}
 use Rattle.adss_commit.specs.Derivation.{polynomial, polynomials, derived, box_of, body_key_of, body_of, seal_key_of}
 use Rattle.nest_client.specs.declared.client.Client.{Client}
-use Rattle.nest_client.specs.Report.{coins, point_of, nonce_of, layer, frame_of, sealed_by, share}
+use Rattle.nest_client.specs.Report.{coins, point_of, nonce_of, layer, frame_of, sealed_by, share, plain_body, report_from}
 
--- a part of the keystream
-pub part-of_keystream : (key nonce : List ℕ) (counter n from count : ℕ) → from + count ≤ n
-    → slice_range (keystream key nonce counter 0 n) from (from + count) ≡ keystream key nonce counter from count
-part-of_keystream key nonce counter n from count within =
-    let before : List ℕ = keystream key nonce counter 0 from in
-    let part : List ℕ = keystream key nonce counter from count in
-    let after : List ℕ = keystream key nonce counter (from + count) (n - (from + count)) in
+-- zeros of which the first n became a keystream begin with it
+pub front_drawn : (key nonce : List ℕ) (n m : ℕ) (zeros new : List ℕ) → n ≤ m → zeros ≡ replicate m 0
+    → new ≡ xor_bytes (take n zeros) (keystream key nonce 0 0 (length (take n zeros))) → take n (new ++ drop n zeros) ≡ keystream key nonce 0 0 n
+front_drawn key nonce n m zeros new few are_zeros is =
+    let front : take n zeros ≡ replicate n 0 = ap (take n) are_zeros ∙ take-replicate n m 0 few in
+    let drawn : new ≡ keystream key nonce 0 0 n = keystream_from_zeros key nonce 0 n (take n zeros) new front is in
+    take_at new (drop n zeros) n (ap length drawn ∙ keystream_length key nonce 0 0 n) ∙ drawn
+
+-- a part of the keystream with which bytes begin
+pub part-of_keystream : (key nonce : List ℕ) (n from count : ℕ) (bytes : List ℕ) → from + count ≤ n → take n bytes ≡ keystream key nonce 0 0 n
+    → slice_range bytes from (from + count) ≡ keystream key nonce 0 from count
+part-of_keystream key nonce n from count bytes within drawn =
+    let before : List ℕ = keystream key nonce 0 0 from in
+    let part : List ℕ = keystream key nonce 0 from count in
+    let after : List ℕ = keystream key nonce 0 (from + count) (n - (from + count)) in
+    let rest : List ℕ = drop n bytes in
     let size : n ≡ from + (count + (n - (from + count))) = omega arith in
     let start : 0 + from ≡ from = omega arith in
     let count_is : from + count - from ≡ count = omega arith in
-    let whole : keystream key nonce counter 0 n ≡ before ++ (part ++ after) =
-    ap (keystream key nonce counter 0) size ∙ split key nonce counter 0 from (count + (n - (from + count)))
-    ∙ ap (λ (s : ℕ). before ++ keystream key nonce counter s (count + (n - (from + count)))) start
-    ∙ ap (λ (rest : List ℕ). before ++ rest) (split key nonce counter from count (n - (from + count))) in
-    ap₂ (λ (k : ℕ) (bytes : List ℕ). take k (drop from bytes)) count_is whole
-    ∙ ap (take count) (drop_at before (part ++ after) from (keystream_length key nonce counter 0 from))
-    ∙ take_at part after count (keystream_length key nonce counter from count)
+    let front : take n bytes ≡ before ++ (part ++ after) =
+    drawn ∙ ap (keystream key nonce 0 0) size ∙ split key nonce 0 0 from (count + (n - (from + count)))
+    ∙ ap (λ (s : ℕ). before ++ keystream key nonce 0 s (count + (n - (from + count)))) start
+    ∙ ap (λ (more : List ℕ). before ++ more) (split key nonce 0 from count (n - (from + count))) in
+    let whole : bytes ≡ before ++ (part ++ (after ++ rest)) =
+    sym (take-append-drop n bytes) ∙ ap (λ (xs : List ℕ). xs ++ rest) front ∙ append_assoc before (part ++ after) rest
+    ∙ ap (λ (more : List ℕ). before ++ more) (append_assoc part after rest) in
+    ap₂ (λ (k : ℕ) (xs : List ℕ). take k (drop from xs)) count_is whole
+    ∙ ap (take count) (drop_at before (part ++ (after ++ rest)) from (keystream_length key nonce 0 0 from))
+    ∙ take_at part (after ++ rest) count (keystream_length key nonce 0 from count)
 
--- another seal in place of the one of a frame
-pub with_seal : (r : Fields) (seal items cut final : List ℕ) → IsFrame r items → length seal ≡ 32
-    → cut ≡ take (length items - 32) items → final ≡ cut ++ seal → IsFrame (record r { seal = seal }) final
-with_seal r seal items cut final of_r long cut_is final_is =
-    let range : InRange r = in_range r items of_r in
-    let other : Fields = record r { seal = seal } in
-    let other_range : InRange other = record {
-      level = range.level;
-      epoch = range.epoch;
-      k_low = range.k_low;
-      k_high = range.k_high;
-      x_low = range.x_low;
-      x_high = range.x_high;
-      y0 = range.y0;
-      y1 = range.y1;
-      y2 = range.y2;
-      tag = range.tag;
-      check = range.check;
-      box_low = range.box_low;
-      box_high = range.box_high;
-      nonce = range.nonce;
-      body = range.body;
-      seal = long;
-    } in
-    let spelt : IsFrame other (spelling frame (entries other)) =
-    has_frame other other_range (omega (arith, frame_length r items of_r, of_r.short)) in
-    let same : final ≡ sealed_part r ++ seal = final_is ∙ ap (λ (part : List ℕ). part ++ seal) (cut_is ∙ sealed_part_of_frame r items of_r) in
-    subst (IsFrame other) (sealed_then_seal other (spelling frame (entries other)) spelt ∙ sym same) spelt
+-- the bytes before a seal and the seal are the frame of a report that has one
+pub sealed_is_frame : (r : Fields) (bytes : List ℕ) → IsFrame r (frame_of r) → bytes ≡ sealed_part r ++ r.seal → bytes ≡ frame_of r
+sealed_is_frame r bytes of_r is = is ∙ sym (sealed_then_seal r (frame_of r) of_r)
 
 -- a frame is the one of its report
 pub frame_is : (r : Fields) (bytes : List ℕ) → IsFrame r bytes → bytes ≡ frame_of r
@@ -78,8 +67,9 @@ pub layer_made : (c : Client) (shift : ℕ) (x : Context) (plain : List ℕ) (cs
     (ys : List ℕ) (first second third y0 : ℕ) (key body boxed seal_key : List ℕ)
     → cs ≡ coins c x.level → point ≡ point_of cs → nonce ≡ nonce_of cs → d ≡ derived x → polys ≡ polynomials x → ys ≡ values polys point
     → y0 ≡ field_sum (get_or ys 0 first) shift
-    → key ≡ body_key_of d.key.bytes → body ≡ body_of key nonce plain → boxed ≡ box_of d.key.bytes x.value → seal_key ≡ seal_key_of d.key.bytes
+    → key ≡ body_key_of x.version d.key.bytes → body ≡ body_of key nonce plain → boxed ≡ box_of x.version d.key.bytes x.value → seal_key ≡ seal_key_of x.version d.key.bytes
     → sealed_by seal_key (record {
+      version = x.version;
       level = x.level;
       epoch = x.epoch;
       k = x.k;
@@ -106,3 +96,27 @@ layer_made c shift x plain cs point nonce d polys ys first second third y0 key b
 -- the slice from the second item on
 pub rest_is : {X : Type 0} (xs : List X) → take (length xs - 1) (drop 1 xs) ≡ drop 1 xs
 rest_is xs = take_all (length xs - 1) (drop 1 xs) (omega (arith, length-drop 1 xs))
+
+-- the plain body before some layers is the byte 1 and the frame of the report of these layers
+pub plain_is : (c : Client) (extra : List ℕ) (level : ℕ) (parent : List ℕ) (vs : List (List ℕ)) (ks : List ℕ) → 1 ≤ length vs → length vs ≡ length ks
+    → plain_body c extra level parent vs ks ≡ 1 ∷ frame_of (report_from c extra level parent 0 vs ks)
+unfolding plain_body
+plain_is c extra level parent [] ks some width = absurd (omega arith)
+plain_is c extra level parent (v ∷ vs) [] some width = absurd (omega arith)
+plain_is c extra level parent (v ∷ vs) (k ∷ ks) some width = refl
+
+-- where there are no layers it is the byte 0 and the extra bytes
+pub last_is : (c : Client) (extra : List ℕ) (level : ℕ) (parent : List ℕ) (vs : List (List ℕ)) (ks : List ℕ) → length vs ≡ 0
+    → plain_body c extra level parent vs ks ≡ 0 ∷ extra
+unfolding plain_body
+last_is c extra level parent [] ks none = refl
+last_is c extra level parent (v ∷ vs) ks none = absurd (omega arith)
+
+-- no version has more layers than there is room for, nor shorter frames than version 1
+pub layers_within : (v : Version) → max_layers v ≤ MAX_LAYERS
+layers_within One = omega arith
+layers_within Two = omega arith
+
+pub frame_room : (v : Version) → MAX_FRAME_ONE ≤ max_frame v
+frame_room One = omega arith
+frame_room Two = omega arith

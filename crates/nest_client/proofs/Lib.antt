@@ -1,3 +1,3 @@
-pub mod Layers
-pub mod Records
-pub mod Held
+mod Layers
+mod Records
+mod Held

@@ -7,14 +7,9 @@ use Rattle.star_io.specs.Records.{Begins, BeginAll, AreRecords}
 use Rattle.star_io.specs.declared.record.TheConstants.{MAX_RECORD_BYTES}
 use Rattle.star_io.specs.declared.record.Record.{Record}
 use Rattle.star_io.specs.declared.record.Record.TheVariants.{Whole}
+use Rattle.star_io.specs.RecordLists.{record_bytes, whole}
 use Rattle.star_io.proofs.RecordLaws.{begin_more}
-use Rattle.nest_client.specs.Stream.{whole, first_of}
-
--- whole records have one stream
-pub one_stream : (bodies : List (List ℕ)) (a b : List ℕ) → AreRecords (whole bodies) a → AreRecords (whole bodies) b → a ≡ b
-one_stream [] a b of_a of_b = of_a ∙ sym of_b
-one_stream (body ∷ bodies) a b of_a of_b =
-    of_a.1.1 ∙ ap (λ (rest : List ℕ). to_be_bytes w32 (length body) ++ body ++ rest) (one_stream bodies of_a.0 of_b.0 of_a.2 of_b.2) ∙ sym of_b.1.1
+use Rattle.nest_client.specs.Stream.{first_of}
 
 -- what follows bytes follows the records with which they begin
 more_behind : (bodies : List (List ℕ)) (bytes rest more : List ℕ) → BeginAll (whole bodies) bytes rest → BeginAll (whole bodies) (bytes ++ more) (rest ++ more)
@@ -30,9 +25,9 @@ more_behind (body ∷ bodies) bytes rest more all = (
 
 -- a record behind those of f 0, f 1 and so on
 pub one_more : (f : ℕ → List ℕ) (n : ℕ) (text next body : List ℕ) → AreRecords (whole (first_of f n)) text → length body ≤ MAX_RECORD_BYTES → body ≡ f n
-    → next ≡ text ++ (to_be_bytes w32 (length body) ++ body) → AreRecords (whole (first_of f (n + 1))) next
+    → next ≡ text ++ record_bytes body → AreRecords (whole (first_of f (n + 1))) next
 one_more f n text next body so_far short body_is next_is =
-    let spelt : List ℕ = to_be_bytes w32 (length body) ++ body in
+    let spelt : List ℕ = record_bytes body in
     let follows : Begins (Whole body) spelt [] = (short, sym (append-nil spelt)) in
     let all : AreRecords (whole (first_of f n) ++ Whole body ∷ []) (text ++ spelt) =
     begin_more (whole (first_of f n)) (Whole body) (text ++ spelt) spelt [] (more_behind (first_of f n) text [] spelt so_far) follows in

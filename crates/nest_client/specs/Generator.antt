@@ -5,8 +5,10 @@ use Rattle.sha2.specs.Sha256.{sha256}
 use Rattle.byteorder.specs.Endian.{big_number}
 use Rattle.chacha_stream.specs.Keystream.{keystream}
 use Rattle.star_io.specs.declared.record.Record.{Record}
+use Rattle.star_io.specs.RecordLists.{whole}
+use Rattle.report_frame.specs.declared.version.Version.TheVariants.{One}
 use Rattle.nest_client.specs.Report.{client_nonce, client_of, frame_of, report_shifted}
-use Rattle.nest_client.specs.Stream.{whole, first_of}
+use Rattle.nest_client.specs.Stream.{first_of}
 
 -- the key of what is drawn
 abbrev pub draw_key : ℕ → List ℕ
@@ -35,8 +37,12 @@ drawn_shift number liars i = if nat_lt (drawn number i 3 % 100) liars then 1 els
 -- the frame of client i
 abbrev pub drawn_frame : ℕ → ℕ → ℕ → List ℕ
 drawn_frame number liars i =
-    frame_of (report_shifted (client_of 1 (shared_seed number) i) (drawn_shift number liars i) (drawn_values number i) (20 ∷ 10 ∷ []))
+    frame_of (report_shifted (client_of One 1 (shared_seed number) i) (drawn_shift number liars i) (drawn_values number i) (20 ∷ 10 ∷ []))
 
--- the records of clients 0, 1 and so on
+-- the frames of clients 0, 1 and so on
+abbrev pub drawn_frames : ℕ → ℕ → ℕ → List (List ℕ)
+drawn_frames number reports liars = first_of (drawn_frame number liars) reports
+
+-- their records
 abbrev pub drawn_records : ℕ → ℕ → ℕ → List Record
-drawn_records number reports liars = whole (first_of (drawn_frame number liars) reports)
+drawn_records number reports liars = whole (drawn_frames number reports liars)

@@ -5,6 +5,7 @@ use Rattle.byteorder.specs.Endian.{big_number}
 use Rattle.chacha_stream.specs.Keystream.{keystream}
 use Rattle.hmac_seal.specs.Hmac.{hmac_sha256}
 use Rattle.field61.specs.Field.{field_sum}
+use Rattle.report_frame.specs.declared.version.Version.{Version}
 use Rattle.report_frame.specs.Format.{spelling}
 use Rattle.report_frame.specs.Frame.{Fields, frame, entries, sealed_part}
 use Rattle.shamir_limbs.specs.Coefficients.{values}
@@ -43,6 +44,7 @@ sealed_by key r = record r { seal = hmac_sha256 key (sealed_part r) }
 -- the report of a context with these coins around a plain body, still without a seal; y0 is raised by the shift
 abbrev pub unsealed : ℕ → Context → List ℕ → List ℕ → Fields
 unsealed shift x coins plain = record {
+  version = x.version;
   level = x.level;
   epoch = x.epoch;
   k = x.k;
@@ -52,15 +54,15 @@ unsealed shift x coins plain = record {
   y2 = share x coins 2;
   tag = context_tag x;
   check = context_check x;
-  boxed = box_of (context_key x) x.value;
+  boxed = box_of x.version (context_key x) x.value;
   nonce = nonce_of coins;
-  body = body_of (body_key_of (context_key x)) (nonce_of coins) plain;
+  body = body_of (body_key_of x.version (context_key x)) (nonce_of coins) plain;
   seal = [];
 }
 
 -- a client's report of a context
 unfoldable pub layer : Client → ℕ → Context → List ℕ → Fields
-layer c shift x plain = sealed_by (seal_key_of (context_key x)) (unsealed shift x (coins c x.level) plain)
+layer c shift x plain = sealed_by (seal_key_of x.version (context_key x)) (unsealed shift x (coins c x.level) plain)
 
 -- ---- all layers
 
@@ -69,35 +71,49 @@ unfoldable pub frame_of : Fields → List ℕ
 frame_of r = spelling frame (entries r)
 
 abbrev pub context_of : Client → ℕ → List ℕ → List ℕ → ℕ → Context
-context_of c level parent value k = record { parent = parent; epoch = c.epoch; level = level; k = k; value = value }
+context_of c level parent value k = record {
+  version = c.version;
+  parent = parent;
+  epoch = c.epoch;
+  level = level;
+  k = k;
+  value = value;
+}
 
--- the plain body before the layers of these values and thresholds, the first of which has this level and this parent
-unfoldable pub plain_body : Client → ℕ → List ℕ → List (List ℕ) → List ℕ → List ℕ
-plain_body c level parent [] ks = 0 ∷ []
-plain_body c level parent (v ∷ vs) [] = 0 ∷ []
-plain_body c level parent (v ∷ vs) (k ∷ ks) =
-    1 ∷ frame_of (layer c 0 (context_of c level parent v k) (plain_body c (level + 1) (context_check (context_of c level parent v k)) vs ks))
+-- The plain body before the layers of these values and thresholds, the first of which has this level and this parent:
+-- the byte 1 and the frame of that layer, or, where there is none, the byte 0 and the extra bytes.
+unfoldable pub plain_body : Client → List ℕ → ℕ → List ℕ → List (List ℕ) → List ℕ → List ℕ
+plain_body c extra level parent [] ks = 0 ∷ extra
+plain_body c extra level parent (v ∷ vs) [] = 0 ∷ extra
+plain_body c extra level parent (v ∷ vs) (k ∷ ks) =
+    let x = context_of c level parent v k in
+    1 ∷ frame_of (layer c 0 x (plain_body c extra (level + 1) (context_check x) vs ks))
 
--- the context of layer 0
-abbrev pub first_context : Client → List (List ℕ) → List ℕ → Context
-first_context c values thresholds = context_of c 0 (replicate 32 0) (get_or values 0 []) (slice_index thresholds 0)
+-- the report of these layers, of which there is one at least; its y0 is raised by the shift
+abbrev pub report_from : Client → List ℕ → ℕ → List ℕ → ℕ → List (List ℕ) → List ℕ → Fields
+report_from c extra level parent shift values thresholds =
+    let x = context_of c level parent (get_or values 0 []) (slice_index thresholds 0) in
+    layer c shift x (plain_body c extra (level + 1) (context_check x) (drop 1 values) (drop 1 thresholds))
 
--- the report whose y0 is raised by the shift in layer 0
+-- the report of version 1 whose y0 is raised by the shift in layer 0
 abbrev pub report_shifted : Client → ℕ → List (List ℕ) → List ℕ → Fields
-report_shifted c shift values thresholds =
-    layer c shift (first_context c values thresholds)
-    (plain_body c 1 (context_check (first_context c values thresholds)) (drop 1 values) (drop 1 thresholds))
+report_shifted c shift values thresholds = report_from c [] 0 (replicate 32 0) shift values thresholds
 
+-- the report of version 1
 abbrev pub report : Client → List (List ℕ) → List ℕ → Fields
 report c values thresholds = report_shifted c 0 values thresholds
 
+-- the report of version 2
+abbrev pub report2 : Client → List ℕ → List (List ℕ) → List ℕ → Fields
+report2 c extra values thresholds = report_from c extra 0 (replicate 32 0) 0 values thresholds
+
 -- a client by its parts
-abbrev pub client_of : ℕ → List ℕ → ℕ → Client
-client_of epoch seed number = record { epoch = epoch; seed = seed; number = number }
+abbrev pub client_of : Version → ℕ → List ℕ → ℕ → Client
+client_of version epoch seed number = record { version = version; epoch = epoch; seed = seed; number = number }
 
 -- ---- what a report holds
 
--- under this key of a context the seal is that of the bytes before it, and the body is this plain body
+-- under this key of a context, in the report's version, the seal is that of the bytes before it, and the body is this plain body
 pub record HoldsUnder (r : Fields) (key plain : List ℕ) : Type 0 where
-  pub seal : r.seal ≡ hmac_sha256 (seal_key_of key) (sealed_part r)
-  pub body : body_of (body_key_of key) r.nonce r.body ≡ plain
+  pub seal : r.seal ≡ hmac_sha256 (seal_key_of r.version key) (sealed_part r)
+  pub body : body_of (body_key_of r.version key) r.nonce r.body ≡ plain

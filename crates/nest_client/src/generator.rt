@@ -1,13 +1,16 @@
+// Streams for trials.
 ghost use Rattle.std.specs.Prelude.{◌≡◌, ◌≤◌, ◌<◌, ◌+◌, ◌++◌, ℕ, length, slice_index, IfOk};
 ghost use Rattle.std.specs.Int.{w32, to_be_bytes};
 ghost use Rattle.sha2.specs.Sha256.{sha256};
+ghost use Rattle.star_io.specs.RecordLists.{stream_of};
 ghost use Rattle.star_io.specs.Records.{AreRecords};
 ghost use Rattle.star_io.specs.declared.record.TheConstants.{MAX_RECORD_BYTES};
-ghost use Rattle.nest_client.specs.Generator.{drawn, lettered, drawn_frame, drawn_records};
+ghost use Rattle.nest_client.specs.declared.limits.TheConstants.{MAX_REPORTS};
+ghost use Rattle.nest_client.specs.Generator.{drawn, lettered, drawn_frame, drawn_frames, drawn_records};
 
 use crate::client::client_nonce;
 use crate::reports::build_shifted;
-use crate::text::push_record;
+use crate::stream::push_record;
 use byteorder::{BigEndian, ByteOrder};
 use chacha_stream::xor_stream;
 use field61::Fe;
@@ -21,9 +24,10 @@ use std::alloc::Global;
 /// `liars` is how many in a hundred have a wrong share in layer 0.
 pub fn gen_text(alloc: Global, number: u32, reports: u32, liars: u32) -> Result<Vec<u8>, NoMemory>
     requires some { 1 ≤ reports }
-    requires few { reports ≤ 65536 }
+    requires few { reports ≤ MAX_REPORTS }
     requires part { liars ≤ 100 }
-    ensures { IfOk result (λ v. AreRecords (drawn_records number reports liars) v.items) }
+    ensures stream { IfOk result (λ v. v.items ≡ stream_of (drawn_frames number reports liars)) }
+    ensures records { IfOk result (λ v. AreRecords (drawn_records number reports liars) v.items) }
 {
     let mut text = Vec::new(alloc);
     'reports: for i in 0..reports {
@@ -49,8 +53,7 @@ fn drawn_frame(alloc: Global, number: u32, liars: u32, i: u32) -> Result<Vec<u8>
     } else {
         Fe::ZERO
     };
-    let report = build_shifted(alloc, &values, &[20, 10], 1, &seed, i, shift)?;
-    Ok(report)
+    build_shifted(alloc, &values, &[20, 10], 1, &seed, i, shift)
 }
 
 // The four numbers that are drawn for client i.

@@ -1,20 +1,22 @@
-//! Laws of reports and streams. Each function does nothing: its clause is a fact about the
+//! Laws of reports. Each function does nothing: its clause is a fact about the
 //! definitions that the other contracts cite.
 ghost use Rattle.std.specs.Prelude.{◌≡◌, ◌≤◌, ◌<◌, ◌+◌, ◌^◌, ℕ, List, length};
-ghost use Rattle.report_frame.specs.declared.limits.TheConstants.{FIXED_BYTES, MAX_FRAME, MAX_LEVEL, MIN_THRESHOLD, MAX_THRESHOLD, MAX_VALUE};
+ghost use Rattle.report_frame.specs.declared.limits.TheConstants.{FIXED_BYTES, MIN_THRESHOLD, MAX_VALUE};
+ghost use Rattle.report_frame.specs.Versions.{max_level, max_threshold, max_frame};
 ghost use Rattle.report_frame.specs.Frame.{IsFrame};
 ghost use Rattle.report_frame.specs.View.{head_of};
-ghost use Rattle.adss_commit.specs.Derivation.{context_key, head_of as context_head};
-ghost use Rattle.star_io.specs.Records.{AreRecords};
+ghost use Rattle.adss_commit.specs.Derivation.{context_key, context_head};
 ghost use Rattle.adss_commit.specs.declared.context.Context.{Context};
 ghost use Rattle.nest_client.specs.declared.client.Client.{Client};
+ghost use Rattle.nest_client.specs.declared.client.TheConstants.{LAYER_COINS};
+ghost use Rattle.nest_client.specs.declared.limits.TheConstants.{LAYER_BYTES, MAX_REPORT_ONE, MAX_REPORT_TWO, MAX_REPORTS};
 ghost use Rattle.nest_client.specs.Report.{layer, share, coins, point_of, frame_of, HoldsUnder};
-ghost use Rattle.nest_client.specs.Stream.{whole};
 
-/// Whole records have one stream.
-#[tactic(auto, using(crate::proofs::Records::one_stream))]
-pub fn one_stream()
-    ensures { (bodies : List (List ℕ)) (a b : List ℕ) → AreRecords (whole bodies) a → AreRecords (whole bodies) b → a ≡ b }
+/// The limits of what a client makes, in plain numbers.
+pub fn limits()
+    ensures coins { LAYER_COINS ≡ 20 }
+    ensures layer { LAYER_BYTES ≡ 202 }
+    ensures reports { (MAX_REPORT_ONE ≡ 1616) × (MAX_REPORT_TWO ≡ 3487) × (MAX_REPORTS ≡ 65536) }
 {}
 
 /// A report without a shift has the share of its context.
@@ -40,7 +42,7 @@ pub fn layer_shows()
 /// A report of a context in range has a frame.
 #[tactic(auto, using(crate::proofs::Held::layer_is_frame))]
 pub fn layer_is_frame()
-    ensures { (c : Client) (shift : ℕ) (x : Context) (plain : List ℕ) → x.level ≤ MAX_LEVEL → x.epoch < 2 ^ 32 → MIN_THRESHOLD ≤ x.k → x.k ≤ MAX_THRESHOLD →
-        1 ≤ length x.value → length x.value ≤ MAX_VALUE → 1 ≤ length plain → FIXED_BYTES + length x.value + length plain ≤ MAX_FRAME →
+    ensures { (c : Client) (shift : ℕ) (x : Context) (plain : List ℕ) → x.level ≤ max_level x.version → x.epoch < 2 ^ 32 → MIN_THRESHOLD ≤ x.k → x.k ≤ max_threshold x.version →
+        1 ≤ length x.value → length x.value ≤ MAX_VALUE → 1 ≤ length plain → FIXED_BYTES + length x.value + length plain ≤ max_frame x.version →
         IsFrame (layer c shift x plain) (frame_of (layer c shift x plain)) }
 {}

@@ -1,16 +1,20 @@
-ghost use Rattle.std.specs.Prelude.{◌≡◌, ◌≤◌, ◌+◌, length, IfOk};
-ghost use Rattle.report_frame.specs.Frame.{IsFrame};
+// The frame of one layer.
+ghost use Rattle.std.specs.Prelude.{◌≡◌, ◌≤◌, ◌<◌, ◌+◌, ◌++◌, ◌^◌, length, IfOk};
+ghost use Rattle.hmac_seal.specs.Hmac.{hmac_sha256};
+ghost use Rattle.report_frame.specs.Frame.{IsFrame, sealed_part};
 ghost use Rattle.report_frame.specs.Report.{IsGood, fields_of_report};
-ghost use Rattle.report_frame.specs.declared.limits.TheConstants.{FIXED_BYTES, MAX_LEVEL, MIN_THRESHOLD, MAX_THRESHOLD};
+ghost use Rattle.report_frame.specs.declared.limits.TheConstants.{FIXED_BYTES, MAX_FRAME_TWO, MAX_VALUE, MIN_THRESHOLD};
+ghost use Rattle.report_frame.specs.Versions.{max_level, max_threshold, max_frame};
 ghost use Rattle.adss_commit.specs.Derivation.{derived, body_of};
-ghost use Rattle.nest_client.specs.Report.{frame_of, layer, sealed_by};
+ghost use Rattle.nest_client.specs.Report.{frame_of, layer};
 
-use crate::client::{Client, coins_of, nonce_of, point_of};
-use adss_commit::{Context, Derived, body_key, box_value, coefficients, seal_key};
+use crate::client::{nonce_of, point_of};
+use crate::reporter::Reporter;
+use adss_commit::{Context, Derived, body_key, box_value, coefficients_of, seal_key};
 use chacha_stream::xor_stream;
 use field61::Fe;
 use hmac_seal::hmac;
-use report_frame::{Head, NONCE_BYTES, Report, SEAL_BYTES, encode};
+use report_frame::{Head, NONCE_BYTES, Report, SEAL_BYTES, encode_sealed_part};
 use shamir_limbs::share_at;
 use star_io::{Bytes, NoMemory};
 use std::alloc::Global;
@@ -19,73 +23,77 @@ use std::alloc::Global;
 /// share is raised by the shift. What the context derives is handed in, as the caller has it.
 pub(crate) fn layer_frame(
     alloc: Global,
-    client: &Client,
+    reporter: &Reporter,
     shift: Fe,
     context: &Context,
-    commitment: &Derived,
-    plain: &[u8],
+    derivation: &Derived,
+    plain: Vec<u8>,
 ) -> Result<Vec<u8>, NoMemory>
-    requires commitment { commitment.now ≡ derived context.now }
-    requires level { context.now.level ≤ MAX_LEVEL }
+    requires derivation { derivation.now ≡ derived context.now }
+    requires level { context.now.level ≤ max_level context.now.version }
+    requires layer { context.now.level < reporter.now.layers }
     requires k_low { MIN_THRESHOLD ≤ context.now.k }
-    requires k_high { context.now.k ≤ MAX_THRESHOLD }
-    requires body_low { 1 ≤ length plain.now }
-    requires body_high { length plain.now ≤ 3895 }
-    ensures frame { IfOk result (λ v. IsFrame (layer client.now shift context.now plain.now) v.items) }
-    ensures bytes { IfOk result (λ v. v.items ≡ frame_of (layer client.now shift context.now plain.now)) }
-    ensures long { IfOk result (λ v. length v.items ≡ FIXED_BYTES + length context.now.value + length plain.now) }
+    requires k_high { context.now.k ≤ max_threshold context.now.version }
+    requires some { 1 ≤ length plain.items }
+    requires short { FIXED_BYTES + length context.now.value + length plain.items ≤ max_frame context.now.version }
+    ensures frame { IfOk result (λ v. IsFrame (layer reporter.now.client shift context.now plain.items) v.items) }
+    ensures bytes { IfOk result (λ v. v.items ≡ frame_of (layer reporter.now.client shift context.now plain.items)) }
+    ensures long { IfOk result (λ v. length v.items ≡ FIXED_BYTES + length context.now.value + length plain.items) }
 {
-    let coins = coins_of(client, context.level);
+    know_ranges(context);
+    let version = context.version;
+    let coins = reporter.coins_of(context.level);
     let x = point_of(&coins);
     let nonce = nonce_of(&coins);
-    let polynomials = coefficients(alloc, context)?;
+    let polynomials = coefficients_of(alloc, context, &derivation.key)?;
     let [y0, y1, y2] = share_at(&polynomials, x);
-    let body = encrypt(alloc, &body_key(&commitment.key), &nonce, plain)?;
     let report = Report {
         level: context.level,
         epoch: context.epoch,
         head: Head {
+            version,
             k: context.k,
-            tag: commitment.tag,
-            check: commitment.check,
-            boxed: box_value(&commitment.key, &context.value),
+            tag: derivation.tag,
+            check: derivation.check,
+            boxed: box_value(version, &derivation.key, &context.value),
         },
         x,
         y: [y0.add(shift), y1, y2],
         nonce,
-        body,
+        body: encrypt(&body_key(version, &derivation.key), &nonce, plain),
         seal: [0; SEAL_BYTES],
     };
-    let frame = seal_frame(alloc, &report, &seal_key(&commitment.key))?;
-    Ok(frame)
+    seal_frame(alloc, &report, &seal_key(version, &derivation.key))
 }
 
-// The plain body under the keystream of the key.
-fn encrypt(
-    alloc: Global,
-    key: &[u8; 32],
-    nonce: &[u8; NONCE_BYTES],
-    plain: &[u8],
-) -> Result<Bytes, NoMemory>
-    requires { length plain.now ≤ 3895 }
-    ensures bytes { IfOk result (λ b. b ≡ body_of key.now nonce.now plain.now) }
-    ensures long { IfOk result (λ b. length b ≡ length plain.now) }
+// Says what the types of a context's fields say of their values. It does nothing when it runs: its
+// clauses make known what a caller need not state.
+fn know_ranges(context: &Context)
+    ensures epoch { context.now.epoch < 2 ^ 32 }
+    ensures low { 1 ≤ length context.now.value }
+    ensures high { length context.now.value ≤ MAX_VALUE }
 {
-    let mut body = Vec::from_slice(alloc, plain)?;
-    xor_stream(key, nonce, 0, &mut body);
-    Ok(Bytes::from_vec(body))
+    let _epoch = context.epoch;
+    let _value = context.value.as_slice();
+}
+
+// The plain body under the keystream of the key, in its own room.
+fn encrypt(key: &[u8; 32], nonce: &[u8; NONCE_BYTES], mut plain: Vec<u8>) -> Bytes
+    requires { length plain.items ≤ MAX_FRAME_TWO }
+    ensures bytes { result ≡ body_of key.now nonce.now plain.items }
+    ensures long { length result ≡ length plain.items }
+{
+    xor_stream(key, nonce, 0, &mut plain);
+    Bytes::from_vec(plain)
 }
 
 // The frame of the report, with the seal that the key makes in place of its own.
 fn seal_frame(alloc: Global, report: &Report, key: &[u8; 32]) -> Result<Vec<u8>, NoMemory>
     requires { IsGood report.now }
-    ensures frame { IfOk result (λ v. IsFrame (sealed_by key.now (fields_of_report report.now)) v.items) }
-    ensures long { IfOk result (λ v. length v.items ≡ FIXED_BYTES + length report.now.head.boxed + length report.now.body) }
+    ensures { IfOk result (λ v. let part = sealed_part (fields_of_report report.now) in v.items ≡ part ++ hmac_sha256 key.now part) }
 {
-    let mut frame = encode(alloc, report)?;
-    let sealed = frame.len() - SEAL_BYTES;
-    let seal = hmac(key, &frame[..sealed]);
-    frame.truncate(sealed);
+    let mut frame = encode_sealed_part(alloc, report)?;
+    let seal = hmac(key, &frame);
     frame.extend_from_slice(&seal)?;
     Ok(frame)
 }

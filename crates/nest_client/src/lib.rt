@@ -5,14 +5,16 @@ mod client;
 mod generator;
 pub mod laws;
 mod layer;
+mod limits;
+mod reporter;
 mod reports;
-mod table;
-mod text;
+mod stream;
 
 pub use generator::gen_text;
-pub use reports::{build, build_shifted};
-pub use table::Table;
-pub use text::make_text;
+pub use limits::{MAX_REPORT_ONE, MAX_REPORT_TWO, MAX_REPORTS};
+pub use report_frame::{Table, Table2};
+pub use reports::{build, build_shifted, build2};
+pub use stream::{make_text, make_text2};
 
 #[cfg(test)]
 mod tests;

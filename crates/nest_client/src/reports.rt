@@ -1,20 +1,32 @@
-ghost use Rattle.std.specs.Prelude.{◌≡◌, ◌≤◌, ◌+◌, ◌*◌, ℕ, ◌<◌, length, slice_index, IfOk};
-ghost use Rattle.report_frame.specs.declared.limits.TheConstants.{MAX_LEVEL, MIN_THRESHOLD, MAX_THRESHOLD};
+// The report of a client, from its last layer to its first.
+ghost use Rattle.std.specs.Prelude.{◌≡◌, ◌≤◌, ◌+◌, ◌*◌, ℕ, ◌<◌, ◌∷◌, length, replicate, slice_index, IfOk};
+ghost use Rattle.report_frame.specs.declared.limits.TheConstants.{MIN_THRESHOLD};
+ghost use Rattle.report_frame.specs.declared.version.Version.TheVariants.{One, Two};
 ghost use Rattle.report_frame.specs.Frame.{IsFrame};
 ghost use Rattle.report_frame.specs.Thresholds.{AreThresholds};
-ghost use Rattle.nest_client.specs.Report.{plain_body, client_of, report, report_shifted};
+ghost use Rattle.report_frame.specs.Versions.{max_layers, max_threshold};
+ghost use Rattle.nest_client.specs.declared.limits.TheConstants.{LAYER_BYTES, MAX_REPORT_ONE, MAX_REPORT_TWO};
+ghost use Rattle.nest_client.specs.Report.{plain_body, client_of, report, report2, report_from, report_shifted};
 
 use crate::client::Client;
 use crate::layer::layer_frame;
+use crate::reporter::Reporter;
 use adss_commit::{Context, derive};
 use field61::Fe;
-use report_frame::Value;
+use report_frame::{CHECK_BYTES, Extra, Value, Version};
 use star_io::NoMemory;
 use std::alloc::Global;
 
-/// The frame of the report of the values, one layer for each. It has at most 1,616 bytes.
+/// The first byte of the plain body of the last layer.
+const LAST_LAYER: u8 = 0;
+
+/// The first byte of a plain body that holds the frame of the next layer.
+const NEXT_LAYER: u8 = 1;
+
+/// The frame of the report of the values in version 1, one layer for each. It has at most 1,616 bytes.
 ///
-/// The seed makes the coins of all clients; `client` is the number of this one.
+/// The seed makes the coins of all clients; `client` is the number of this one. A seed and a number
+/// make one report: another one wants another seed or number.
 pub fn build(
     alloc: Global,
     values: &[Value],
@@ -23,10 +35,11 @@ pub fn build(
     seed: &[u8; 32],
     client: u32,
 ) -> Result<Vec<u8>, NoMemory>
-    requires thresholds { AreThresholds thresholds.now }
+    requires thresholds { AreThresholds One thresholds.now }
     requires width { length values.now ≡ length thresholds.now }
-    ensures frame { IfOk result (λ v. IsFrame (report (client_of epoch seed.now client) values.now thresholds.now) v.items) }
-    ensures short { IfOk result (λ v. length v.items ≤ 202 * length values.now) }
+    ensures frame { IfOk result (λ v. IsFrame (report (client_of One epoch seed.now client) values.now thresholds.now) v.items) }
+    ensures short { IfOk result (λ v. length v.items ≤ LAYER_BYTES * length values.now) }
+    ensures most { IfOk result (λ v. length v.items ≤ MAX_REPORT_ONE) }
 {
     build_shifted(alloc, values, thresholds, epoch, seed, client, Fe::ZERO)
 }
@@ -42,77 +55,145 @@ pub fn build_shifted(
     client: u32,
     shift: Fe,
 ) -> Result<Vec<u8>, NoMemory>
-    requires thresholds { AreThresholds thresholds.now }
+    requires thresholds { AreThresholds One thresholds.now }
     requires width { length values.now ≡ length thresholds.now }
-    ensures frame { IfOk result (λ v. IsFrame (report_shifted (client_of epoch seed.now client) shift values.now thresholds.now) v.items) }
-    ensures short { IfOk result (λ v. length v.items ≤ 202 * length values.now) }
+    ensures frame { IfOk result (λ v. IsFrame (report_shifted (client_of One epoch seed.now client) shift values.now thresholds.now) v.items) }
+    ensures short { IfOk result (λ v. length v.items ≤ LAYER_BYTES * length values.now) }
+    ensures most { IfOk result (λ v. length v.items ≤ MAX_REPORT_ONE) }
 {
-    let client = Client {
+    let sender = Client {
+        version: Version::One,
         epoch,
         seed: *seed,
         number: client,
     };
-    let context = Context {
-        parent: [0; 32],
-        epoch,
-        level: 0,
-        k: thresholds[0],
-        value: values[0].copy(),
-    };
-    let commitment = derive(&context);
-    let plain = plain_body(
-        alloc,
-        &client,
-        1,
-        &commitment.check,
-        &values[1..],
-        &thresholds[1..],
-    )?;
-    let frame = layer_frame(alloc, &client, shift, &context, &commitment, &plain)?;
-    Ok(frame)
+    first_frame(alloc, sender, Extra::default(), shift, values, thresholds)
 }
 
-// The plain body before the layers of these values. The frame of the last layer is made first.
-#[tactic(auto, unfolding(crate::specs::Report::plain_body))]
-fn plain_body(
+/// As [`build`], in version 2, with these extra bytes in the last layer. It has at most 3,487 bytes.
+pub fn build2(
     alloc: Global,
-    client: &Client,
-    level: u8,
-    parent: &[u8; 32],
+    values: &[Value],
+    thresholds: &[u16],
+    epoch: u32,
+    extra: &Extra,
+    seed: &[u8; 32],
+    client: u32,
+) -> Result<Vec<u8>, NoMemory>
+    requires thresholds { AreThresholds Two thresholds.now }
+    requires width { length values.now ≡ length thresholds.now }
+    ensures frame { IfOk result (λ v. IsFrame (report2 (client_of Two epoch seed.now client) extra.now values.now thresholds.now) v.items) }
+    ensures short { IfOk result (λ v. length v.items ≤ LAYER_BYTES * length values.now + length extra.now) }
+    ensures most { IfOk result (λ v. length v.items ≤ MAX_REPORT_TWO) }
+{
+    // This makes known how many extra bytes there may be.
+    let _extra = extra.as_slice();
+    let sender = Client {
+        version: Version::Two,
+        epoch,
+        seed: *seed,
+        number: client,
+    };
+    first_frame(alloc, sender, extra.copy(), Fe::ZERO, values, thresholds)
+}
+
+// The frame of layer 0.
+fn first_frame(
+    alloc: Global,
+    client: Client,
+    extra: Extra,
+    shift: Fe,
     values: &[Value],
     thresholds: &[u16],
 ) -> Result<Vec<u8>, NoMemory>
-    requires deep { level + length values.now ≤ MAX_LEVEL + 1 }
+    requires thresholds { AreThresholds client.version thresholds.now }
+    requires width { length values.now ≡ length thresholds.now }
+    ensures frame { IfOk result (λ v. IsFrame (report_from client extra 0 (replicate 32 0) shift values.now thresholds.now) v.items) }
+    ensures short { IfOk result (λ v. length v.items ≤ LAYER_BYTES * length values.now + length extra) }
+{
+    let reporter = Reporter::of(client, values.len(), extra);
+    frame_from(
+        alloc,
+        &reporter,
+        0,
+        &[0; CHECK_BYTES],
+        shift,
+        values,
+        thresholds,
+    )
+}
+
+// The frame of the layers of these values, the first of which has this level and this parent. The
+// first number of that layer's share is raised by the shift.
+#[cycle(layers)]
+fn frame_from(
+    alloc: Global,
+    reporter: &Reporter,
+    level: u8,
+    parent: &[u8; CHECK_BYTES],
+    shift: Fe,
+    values: &[Value],
+    thresholds: &[u16],
+) -> Result<Vec<u8>, NoMemory>
+    requires some { 1 ≤ length values.now }
+    requires deep { level + length values.now ≤ reporter.now.layers }
     requires width { length values.now ≡ length thresholds.now }
     requires low { (i : ℕ) → i < length thresholds.now → MIN_THRESHOLD ≤ slice_index thresholds.now i }
-    requires high { (i : ℕ) → i < length thresholds.now → slice_index thresholds.now i ≤ MAX_THRESHOLD }
-    ensures bytes { IfOk result (λ v. v.items ≡ plain_body client.now level parent.now values.now thresholds.now) }
-    ensures low { IfOk result (λ v. 1 ≤ length v.items) }
-    ensures high { IfOk result (λ v. length v.items ≤ 1 + 202 * length values.now) }
+    requires high { (i : ℕ) → i < length thresholds.now → slice_index thresholds.now i ≤ max_threshold reporter.now.client.version }
+    ensures frame { IfOk result (λ v. IsFrame (report_from reporter.now.client reporter.now.extra level parent.now shift values.now thresholds.now) v.items) }
+    ensures short { IfOk result (λ v. length v.items ≤ LAYER_BYTES * length values.now + length reporter.now.extra) }
 {
-    let mut plain = Vec::new(alloc);
-    if values.is_empty() {
-        plain.push(0)?;
-        return Ok(plain);
-    }
     let context = Context {
+        version: reporter.client.version,
         parent: *parent,
-        epoch: client.epoch,
+        epoch: reporter.client.epoch,
         level,
         k: thresholds[0],
         value: values[0].copy(),
     };
-    let commitment = derive(&context);
-    let inner = plain_body(
+    let derivation = derive(&context);
+    let plain = plain_body(
         alloc,
-        client,
+        reporter,
         level + 1,
-        &commitment.check,
+        &derivation.check,
         &values[1..],
         &thresholds[1..],
     )?;
-    let frame = layer_frame(alloc, client, Fe::ZERO, &context, &commitment, &inner)?;
-    plain.push(1)?;
-    plain.extend_from_slice(&frame)?;
-    Ok(plain)
+    layer_frame(alloc, reporter, shift, &context, &derivation, plain)
+}
+
+// The plain body before the layers of these values.
+#[cycle(layers)]
+fn plain_body(
+    alloc: Global,
+    reporter: &Reporter,
+    level: u8,
+    parent: &[u8; CHECK_BYTES],
+    values: &[Value],
+    thresholds: &[u16],
+) -> Result<Vec<u8>, NoMemory>
+    requires deep { level + length values.now ≤ reporter.now.layers }
+    requires width { length values.now ≡ length thresholds.now }
+    requires low { (i : ℕ) → i < length thresholds.now → MIN_THRESHOLD ≤ slice_index thresholds.now i }
+    requires high { (i : ℕ) → i < length thresholds.now → slice_index thresholds.now i ≤ max_threshold reporter.now.client.version }
+    ensures bytes { IfOk result (λ v. v.items ≡ plain_body reporter.now.client reporter.now.extra level parent.now values.now thresholds.now) }
+    ensures some { IfOk result (λ v. 1 ≤ length v.items) }
+    ensures short { IfOk result (λ v. length v.items ≤ 1 + LAYER_BYTES * length values.now + length reporter.now.extra) }
+{
+    if values.is_empty() {
+        return begun_with(alloc, LAST_LAYER, reporter.extra.as_slice());
+    }
+    let inner = frame_from(alloc, reporter, level, parent, Fe::ZERO, values, thresholds)?;
+    begun_with(alloc, NEXT_LAYER, &inner)
+}
+
+// A byte, and the bytes after it.
+fn begun_with(alloc: Global, first: u8, rest: &[u8]) -> Result<Vec<u8>, NoMemory>
+    ensures { IfOk result (λ v. v.items ≡ first ∷ rest.now) }
+{
+    let mut bytes = Vec::with_capacity(alloc, 1 + rest.len())?;
+    bytes.push(first)?;
+    bytes.extend_from_slice(rest)?;
+    Ok(bytes)
 }

@@ -1,6 +1,6 @@
 use super::*;
 use field61::Fe;
-use report_frame::Value;
+use report_frame::{Extra, Value};
 use sha2::{Digest, Sha256};
 use star_io::NoMemory;
 
@@ -10,15 +10,21 @@ fn text_value(text: &[u8]) -> Value {
     Value::of(text).unwrap_or_default()
 }
 
-// Value j of the row of n values. Those of the row of eight have 64 bytes.
-fn value_of(n: u8, j: u8) -> Value {
-    let mut bytes = [0; 64];
-    let mut next = n.wrapping_mul(31).wrapping_add(j.wrapping_mul(7));
-    for byte in bytes.iter_mut() {
-        *byte = next;
+// The numbers from `first` on, modulo 256.
+fn counted<const N: usize>(first: u8) -> [u8; N] {
+    let mut bytes = [0; N];
+    let mut next = first;
+    for place in 0..N {
+        bytes[place] = next;
         next = next.wrapping_add(1);
     }
-    let length = if n == 8 {
+    bytes
+}
+
+// Value j of the row of n values. Those of the longest row have 64 bytes.
+fn value_of(longest: u8, n: u8, j: u8) -> Value {
+    let bytes = counted::<64>(n.wrapping_mul(31).wrapping_add(j.wrapping_mul(7)));
+    let length = if n == longest {
         64
     } else {
         1 + 9 * (8 * usize::from(n) + usize::from(j)) % 64
@@ -27,86 +33,121 @@ fn value_of(n: u8, j: u8) -> Value {
     text_value(value)
 }
 
-// The bytes 0 to 31.
-fn counting_seed() -> [u8; 32] {
-    let mut seed = [0; 32];
-    let mut next = 0u8;
-    for byte in seed.iter_mut() {
-        *byte = next;
-        next = next.wrapping_add(1);
-    }
-    seed
-}
+const THRESHOLDS: [u16; 16] = [
+    2, 3, 20, 512, 5, 7, 100, 2, 4096, 513, 2, 4000, 3, 30, 9, 1000,
+];
 
+// The digest of the reports of one layer, of two and so on, and the length of the last.
 #[test]
 fn one_to_eight_layers(rt: HostRuntime) -> Result<(), NoMemory> {
-    let thresholds: [u16; 8] = [2, 3, 20, 512, 5, 7, 100, 2];
-    let rows: [(u8, usize, [u8; 32]); 8] = [
-        (
-            1,
-            147,
-            *b"\x5b\x3f\x8b\x3e\xb9\xc3\xa1\x23\xec\x7a\xdb\x0f\x08\xa0\xac\x6c\xb9\xe6\x2a\x15\xe9\x1f\xd7\xc9\x82\xde\x71\x9e\x64\x9a\xbb\x78",
-        ),
-        (
-            2,
-            319,
-            *b"\xb2\xe3\xe1\xfb\xa8\x49\x3f\xb4\x40\x5f\xb6\x1c\x61\x28\xef\x77\x55\x07\x05\x04\x8a\x54\x95\xfb\x06\x24\x49\xfa\x29\x61\x5d\xb0",
-        ),
-        (
-            3,
-            516,
-            *b"\x9e\xf7\xbb\xef\x31\xe1\xc3\x96\x2e\x71\x66\x8a\x8e\xc2\xd3\xd6\x3d\xe7\x9e\x5a\xf1\x46\x30\x4e\xfd\xff\x9a\x28\xd7\x25\x72\xf7",
-        ),
-        (
-            4,
-            738,
-            *b"\xe7\xb1\x13\xfa\x9c\x28\x3f\xcd\x6a\xdc\xdb\x73\x1c\x7b\x1b\xc5\x08\x6e\xf4\x24\x2a\xd6\x95\xe3\x9a\x50\x48\x8e\xc2\x54\xe4\x96",
-        ),
-        (
-            5,
-            857,
-            *b"\x4e\x2b\x46\x31\x94\x7d\x23\x5a\xbe\xd0\x79\x68\xd6\x4c\x3a\xac\xfe\xd6\x54\x7b\xd8\x58\x62\x7b\xd1\xbe\xd7\x87\xad\x8c\x2c\x52",
-        ),
-        (
-            6,
-            1001,
-            *b"\xb7\x9e\x6e\x8d\x28\x79\xcf\x26\x72\x48\x17\x16\x2a\x8d\xa6\x15\x37\x09\x99\xf9\x2b\x03\xd3\xca\xe1\x2f\xa1\xda\xb2\x37\x1a\x8e",
-        ),
-        (
-            7,
-            1170,
-            *b"\x67\xa4\xc0\xc2\xd2\x38\x3c\xc1\x1c\x62\x34\xe6\x8a\xf5\xe8\xf9\x96\xb9\xd3\x35\x62\x00\xd9\x9e\xb3\x0b\xea\xed\xad\xc2\x77\x32",
-        ),
-        (
-            8,
-            1616,
-            *b"\x09\x60\x71\xf0\x8c\x74\xb1\x4c\x09\x74\xc5\x32\x00\x8c\xb2\x49\xa6\x5d\x28\x7a\xb7\x71\x58\x11\x13\xdf\xc4\x48\x40\x01\x32\x3f",
-        ),
-    ];
-    for (n, length, digest) in rows {
+    let mut hasher = Sha256::new();
+    let mut last = 0;
+    for n in 1..=8u8 {
         let values = [
-            value_of(n, 0),
-            value_of(n, 1),
-            value_of(n, 2),
-            value_of(n, 3),
-            value_of(n, 4),
-            value_of(n, 5),
-            value_of(n, 6),
-            value_of(n, 7),
+            value_of(8, n, 0),
+            value_of(8, n, 1),
+            value_of(8, n, 2),
+            value_of(8, n, 3),
+            value_of(8, n, 4),
+            value_of(8, n, 5),
+            value_of(8, n, 6),
+            value_of(8, n, 7),
         ];
         let layers = usize::from(n);
-        let client = 1000000 * u32::from(n);
         let frame = build(
             rt.alloc(),
             &values[..layers],
-            &thresholds[..layers],
+            &THRESHOLDS[..layers],
             4000000000,
-            &counting_seed(),
-            client,
+            &counted(0),
+            1000000 * u32::from(n),
         )?;
-        assert_eq!(rt; frame.len(), length);
-        assert_eq!(rt; Sha256::digest(frame.as_slice()), digest);
+        hasher.update(frame.as_slice());
+        last = frame.len();
     }
+    assert_eq!(rt; last, 1616);
+    assert_eq!(rt;
+        hasher.finalize(),
+        *b"\x03\xa9\xbc\x7c\x2f\xed\x68\xab\xf1\xbc\x1b\x27\x60\xb9\x56\x55\x37\x94\xbc\x7e\xaa\xdf\x99\x70\x07\x2c\x5e\x48\x4e\x52\xda\x0d"
+    );
+    Ok(())
+}
+
+// The same in version 2, with no, one and as many extra bytes as there may be.
+#[test]
+fn one_to_sixteen_layers_with_extra_bytes(rt: HostRuntime) -> Result<(), NoMemory> {
+    let cases: [(usize, usize, [u8; 32]); 3] = [
+        (
+            0,
+            3232,
+            *b"\x49\x7b\xfb\x47\x9b\x85\x74\xfa\x8c\x9c\x88\x8f\xfb\x65\xf4\x96\x9b\x54\xb9\xd4\x56\x2a\x4d\xbf\x53\x86\xce\x2c\x60\xf5\xf4\xf6",
+        ),
+        (
+            1,
+            3233,
+            *b"\x44\x5a\xa5\x11\xdc\x48\xc8\xcf\x4c\x26\xde\xeb\x7b\xc7\x9a\x8d\xfb\x60\x91\x7b\x48\xfd\x58\x91\x65\xbb\xbe\x56\x33\x77\xbf\xe9",
+        ),
+        (
+            255,
+            3487,
+            *b"\x60\xf6\x85\xfe\xfb\xf2\xeb\xa4\xec\x7a\x4b\x4e\x05\xf3\x88\xc4\xdb\x2b\xfe\x04\x93\xe0\x07\x4b\x7f\xe6\xab\x82\x59\xea\x54\xf9",
+        ),
+    ];
+    for (length, longest, digest) in cases {
+        let bytes = counted::<255>(7);
+        let (extra, _) = bytes.split_at(length.min(255));
+        let extra = Extra::of(extra).unwrap_or_default();
+        let mut hasher = Sha256::new();
+        let mut last = 0;
+        for n in 1..=16u8 {
+            let values = [
+                value_of(16, n, 0),
+                value_of(16, n, 1),
+                value_of(16, n, 2),
+                value_of(16, n, 3),
+                value_of(16, n, 4),
+                value_of(16, n, 5),
+                value_of(16, n, 6),
+                value_of(16, n, 7),
+                value_of(16, n, 8),
+                value_of(16, n, 9),
+                value_of(16, n, 10),
+                value_of(16, n, 11),
+                value_of(16, n, 12),
+                value_of(16, n, 13),
+                value_of(16, n, 14),
+                value_of(16, n, 15),
+            ];
+            let layers = usize::from(n);
+            let frame = build2(
+                rt.alloc(),
+                &values[..layers],
+                &THRESHOLDS[..layers],
+                4000000000,
+                &extra,
+                &counted(0),
+                1000000 * u32::from(n),
+            )?;
+            hasher.update(frame.as_slice());
+            last = frame.len();
+        }
+        assert_eq!(rt; last, longest);
+        assert_eq!(rt; hasher.finalize(), digest);
+    }
+    Ok(())
+}
+
+#[test]
+fn every_byte_of_a_report_with_extra_bytes(rt: HostRuntime) -> Result<(), NoMemory> {
+    let red = [text_value(b"red")];
+    let extra = Extra::of(b"abc").unwrap_or_default();
+    let frame = build2(rt.alloc(), &red, &[2], 1, &extra, &[0; 32], 0)?;
+    assert_eq!(rt;
+        frame.as_slice(),
+        (b"\x53\x54\x02\x00\x00\x00\x00\x01\x00\x02\x06\xb8\xe0\xad\xa0\xf1\x3d\x91\x16\x8f\xea\xc4\x68\x7b\xf6\x69\x0f\xab\xbd\x6c\xe8\xb4\x7a\x72\x05\x34\x68\x8d\x03\x55\xae\xf7\x46\x4e\x22\x87\xd2\x0d\x26\x77\x0e\xde\xe5\x77\x42\xee\x5c\x68\xdb\xe4\xec\x28\x69\x1f\x79\xc3\x0b\xca\x79\x72\x59\xd3\x8c\x93\xc3\x60\x86\x43\xa3\xa9\x09\xb1\x4d\x30\xc0\x90\x63\xf4\x87\x13\x03\xd0\x7d\x4d\x40\x5d\x6a\xe5\x53\x86\xbd\x28\xbd\xd2\x19\xb8\x00\x04\xa6\x35\x62\x71\xd2\x3d\x64\x1d\xb8\xc7\xf2\xd7\x93\xed\xdc\x53\xcb\xa4\x4f\xbf\x73\x8e\xf2\x70\xd5\xa4\x79\xd4\xb1\x9d\x4a\x6d\xe8\x7a\xbe\xa3").as_slice()
+    );
+    let frame = build2(rt.alloc(), &red, &[2], 1, &Extra::default(), &[0; 32], 0)?;
+    assert_eq!(rt; frame.len(), 141);
     Ok(())
 }
 
@@ -134,17 +175,36 @@ fn the_text_of_a_table(rt: HostRuntime) -> Result<(), NoMemory> {
     table.add_row(&[text_value(b"red"), text_value(b"green"), text_value(b"y")])?;
     assert_eq!(rt; table.len(), 2);
     assert!(rt; table.row(1)[1] == text_value(b"green"));
-    let text = make_text(
-        rt.alloc(),
-        &table,
-        &[2, 3, 512],
-        4000000000,
-        &counting_seed(),
-    )?;
+    let text = make_text(rt.alloc(), &table, &[2, 3, 512], 4000000000, &counted(0))?;
     assert_eq!(rt; text.len(), 916);
     assert_eq!(rt;
         Sha256::digest(text.as_slice()),
         *b"\x2d\xee\x5c\x49\x40\x49\x08\x7e\x92\xbf\xb7\x6b\x6c\x41\x1d\x3c\x44\x44\xb8\xab\x01\xd8\x77\xa9\xbe\xac\x40\xfb\x5b\x9c\x37\xce"
+    );
+    Ok(())
+}
+
+#[test]
+fn the_text_of_a_table_with_extra_bytes(rt: HostRuntime) -> Result<(), NoMemory> {
+    let mut table = Table2::new(rt.alloc());
+    let first = Extra::of(b"first").unwrap_or_default();
+    table.add_row(
+        &[
+            text_value(b"red"),
+            text_value(b"blue"),
+            text_value(&[b'x'; 64]),
+        ],
+        &first,
+    )?;
+    table.add_row(
+        &[text_value(b"red"), text_value(b"green"), text_value(b"y")],
+        &Extra::default(),
+    )?;
+    let text = make_text2(rt.alloc(), &table, &[2, 3, 4096], 4000000000, &counted(0))?;
+    assert_eq!(rt; text.len(), 921);
+    assert_eq!(rt;
+        Sha256::digest(text.as_slice()),
+        *b"\xa1\x4d\x6f\xac\x5e\xcd\xdd\xd2\x85\x04\x59\xef\xb8\xe7\x85\x58\x10\xd5\x72\xef\x0e\x8a\x68\xab\xff\x1c\x28\x92\xfb\x70\x95\xee"
     );
     Ok(())
 }

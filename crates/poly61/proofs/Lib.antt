@@ -2,9 +2,9 @@ pub mod Elements
 pub mod Places
 pub mod Counts
 pub mod Roots
-pub mod Halves
+mod Halves
 pub mod Lists
 pub mod Values
 pub mod Products
 pub mod PolynomialLaws
-pub mod Convolution
+mod Convolution

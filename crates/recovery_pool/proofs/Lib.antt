@@ -1,3 +1,3 @@
-pub mod Ordered
-pub mod Sums
-pub mod RuleKept
+mod Ordered
+mod Sums
+mod RuleKept

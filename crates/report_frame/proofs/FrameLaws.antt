@@ -4,12 +4,15 @@ use Rattle.std.specs.Prelude.{◌⊎◌, ◌↔◌}
 use Rattle.std.proofs.lemmas.List.{take_at}
 use Rattle.star_io.specs.Bytes.{AreBytes}
 use Rattle.field61.specs.declared.TheConstants.{MODULUS}
-use Rattle.report_frame.specs.declared.limits.TheConstants.{SEAL_BYTES, FIXED_BYTES, MAX_FRAME}
+use Rattle.report_frame.specs.declared.limits.TheConstants.{SEAL_BYTES, FIXED_BYTES}
 use Rattle.report_frame.specs.declared.fault.Fault.{Fault}
-use Rattle.report_frame.specs.Format.{IsEnd, spelling}
+use Rattle.report_frame.specs.declared.version.Version.{Version}
+use Rattle.report_frame.specs.Versions.{version_number, version_of, max_level, max_threshold, max_frame}
+use Rattle.report_frame.specs.Format.{After, IsEnd, spelling}
 use Rattle.report_frame.specs.Frame.{Fields, IsFrame, FaultAt, entries, frame, sealed_part, sealed_entries}
 use Rattle.report_frame.specs.Reading.{read, decoded}
 use Rattle.report_frame.specs.Laws.{InRange, IsOneFrame, HasOneFault}
+use Rattle.report_frame.proofs.VersionFacts.{version_of_number, number_low, number_high, frame_within}
 use Rattle.report_frame.proofs.Walk.{read-whole, read-trailing, spelling-last}
 use Rattle.report_frame.proofs.Frames.{frame_is_sound, decoded-frame, decoded-fault, decodes_to, ToReport, ToFault}
 
@@ -81,9 +84,10 @@ no_prefix r q bytes (b ∷ more) of_r of_q =
 -- ---- what is known of a frame
 
 -- each field is in its range
-pub in_range : (r : Fields) (bytes : List ℕ) → IsFrame r bytes → InRange r
-in_range r bytes of_r =
-    let level = of_r.range.2.2 in
+pub range_of_entries : (r : Fields) → After frame (entries r) IsEnd → InRange r
+range_of_entries r range =
+    let version = version_of_number r.version in
+    let level = range.2.2 in
     let epoch = level.2 in
     let k = epoch.2 in
     let x = k.2 in
@@ -97,10 +101,10 @@ in_range r bytes of_r =
     let body_length = nonce.1 in
     let seal = body_length.2.1 in
     record {
-      level = level.1;
+      level = subst (λ (v : Version). r.level ≤ max_level v) version level.1;
       epoch = omega (arith, epoch.1);
       k_low = k.0;
-      k_high = k.1;
+      k_high = subst (λ (v : Version). r.k ≤ max_threshold v) version k.1;
       x_low = x.0;
       x_high = omega (arith, x.1);
       y0 = omega (arith, y0.1);
@@ -115,6 +119,9 @@ in_range r bytes of_r =
       seal = seal.0;
     }
 
+pub in_range : (r : Fields) (bytes : List ℕ) → IsFrame r bytes → InRange r
+in_range r bytes of_r = range_of_entries r of_r.range
+
 -- the fields of fixed size take `FIXED_BYTES` bytes
 spelling_length : (r : Fields) → InRange r → length (spelling frame (entries r)) ≡ FIXED_BYTES + length r.boxed + length r.body
 spelling_length r range = omega (arith, length-append {A = ℕ}, range.tag, range.check, range.nonce, range.seal)
@@ -123,19 +130,30 @@ pub frame_length : (r : Fields) (bytes : List ℕ) → IsFrame r bytes → lengt
 frame_length r bytes of_r = ap length of_r.spelt ∙ spelling_length r (in_range r bytes of_r)
 
 -- a report in range has a frame, unless that is too long
-pub has_frame : (r : Fields) → InRange r → FIXED_BYTES + length r.boxed + length r.body ≤ MAX_FRAME → IsFrame r (spelling frame (entries r))
+pub has_frame : (r : Fields) → InRange r → FIXED_BYTES + length r.boxed + length r.body ≤ max_frame r.version → IsFrame r (spelling frame (entries r))
 has_frame r range few =
+    let version = sym (version_of_number r.version) in
+    let number_is_low = number_low r.version in
+    let number_is_high = number_high r.version in
+    let level : r.level ≤ max_level (version_of (version_number r.version)) = subst (λ (v : Version). r.level ≤ max_level v) version range.level in
+    let k : r.k ≤ max_threshold (version_of (version_number r.version)) = subst (λ (v : Version). r.k ≤ max_threshold v) version range.k_high in
     let epoch : r.epoch ≤ 2 ^ 32 - 1 = omega (arith, range.epoch) in
     let x : r.x ≤ MODULUS - 1 = omega (arith, range.x_high) in
     let y0 : r.y0 ≤ MODULUS - 1 = omega (arith, range.y0) in
     let y1 : r.y1 ≤ MODULUS - 1 = omega (arith, range.y1) in
     let y2 : r.y2 ≤ MODULUS - 1 = omega (arith, range.y2) in
-    let body : length r.body ≤ 2 ^ 16 - 1 = omega (arith, few) in
+    let body : length r.body ≤ 2 ^ 16 - 1 = omega (arith, few, frame_within r.version) in
     record { range = search (rules, arith); spelt = refl; short = omega (arith, spelling_length r range, few) }
 
 -- a frame is its sealed part and its seal
 pub sealed_then_seal : (r : Fields) (bytes : List ℕ) → IsFrame r bytes → bytes ≡ sealed_part r ++ r.seal
 sealed_then_seal r bytes of_r = of_r.spelt ∙ spelling-last frame (sealed_entries r) r.seal IsEnd of_r.range
+
+-- so both are its frame
+pub has_sealed_frame : (r : Fields) → InRange r → FIXED_BYTES + length r.boxed + length r.body ≤ max_frame r.version → IsFrame r (sealed_part r ++ r.seal)
+has_sealed_frame r range few =
+    let of_r = has_frame r range few in
+    subst (IsFrame r) (sealed_then_seal r (spelling frame (entries r)) of_r) of_r
 
 -- so the sealed part is every byte before the seal
 pub sealed_part_of_frame : (r : Fields) (bytes : List ℕ) → IsFrame r bytes → take (length bytes - SEAL_BYTES) bytes ≡ sealed_part r

@@ -1,20 +1,23 @@
--- The frame of version 1 as a format: what its entries are, and what bytes decode to.
-use Rattle.std.proofs.Common.{◌≡◌, ℕ, ◌+◌, ◌<◌, ◌≤◌, List, [], ◌∷◌, length, Result, Ok, Err, refl, sym, ap, subst, ◌∙◌, rules, arith, inl, inr}
-use Rattle.std.proofs.lemmas.Bool.{cases_lt, le-ltb, lt-ltb}
+-- The frame as a format: what its entries are, and what bytes decode to.
+use Rattle.std.proofs.Common.{◌≡◌, ℕ, ◌+◌, ◌≤◌, List, [], ◌∷◌, length, Option, Some, None, Result, Ok, Err, refl, sym, ap, subst, ◌∙◌, rules, arith, inl, inr}
 use Rattle.star_io.specs.Bytes.{AreBytes}
-use Rattle.report_frame.specs.declared.limits.TheConstants.{MAGIC, VERSION, MAX_FRAME}
+use Rattle.report_frame.specs.declared.limits.TheConstants.{MAGIC}
 use Rattle.report_frame.specs.declared.fault.FaultKind.{FaultKind}
 use Rattle.report_frame.specs.declared.fault.FaultKind.TheVariants.{TooLong}
 use Rattle.report_frame.specs.declared.fault.Fault.{Fault}
+use Rattle.report_frame.specs.declared.version.Version.{Version}
+use Rattle.report_frame.specs.Versions.{version_of}
 use Rattle.report_frame.specs.Format.{Size, Format, Entry, After, IsEnd, spelling}
 use Rattle.report_frame.specs.Format.Format.{End, NumberField, BytesField}
 use Rattle.report_frame.specs.Format.Entry.{Number, Bytes}
 use Rattle.report_frame.specs.Frame.{Fields, IsFrame, FaultAt, entries, back, frame}
-use Rattle.report_frame.specs.Reading.{◌>>=◌, read, fields_from, decoded}
+use Rattle.report_frame.specs.Reading.{◌>>=◌, read, fields_from, passed_limit, decoded_under, decoded}
+use Rattle.report_frame.proofs.VersionFacts.{version_of_number, number_of_version, level_fits, threshold_fits}
+use Rattle.report_frame.proofs.Lengths.{Passes, Keeps, limit_step, passes, keeps, short_enough, frame_is_short}
 use Rattle.report_frame.proofs.Walk.{IsSound, found, Whole, Wrong, read-whole, read-wrong}
 
 pub frame_is_sound : IsSound frame
-frame_is_sound = search (rules, arith)
+frame_is_sound = search (rules, arith, level_fits, threshold_fits)
 
 -- ---- the entries
 
@@ -69,7 +72,7 @@ record HasReport (es : List Entry) : Type 0 where
 whole_entries : (es : List Entry) → After frame es IsEnd → HasReport es
 whole_entries es whole =
     number_first (HasReport es) _ _ _ _ _ es whole (λ magic es1 magic_is magic_low magic_high whole1.
-    number_first (HasReport es) _ _ _ _ _ es1 whole1 (λ version es2 version_is version_low version_high whole2.
+    number_first (HasReport es) _ _ _ _ _ es1 whole1 (λ number es2 number_is number_low number_high whole2.
     number_first (HasReport es) _ _ _ _ _ es2 whole2 (λ level es3 level_is _ _ whole3.
     number_first (HasReport es) _ _ _ _ _ es3 whole3 (λ epoch es4 epoch_is _ _ whole4.
     number_first (HasReport es) _ _ _ _ _ es4 whole4 (λ k es5 k_is _ _ whole5.
@@ -81,8 +84,9 @@ whole_entries es whole =
     bytes_first (HasReport es) _ _ es10 whole10 (λ check es11 check_is _ whole11.
     let rest = back_entries es11 whole11 in
     let is_magic = pinned magic MAGIC magic_low magic_high in
-    let is_version = pinned version VERSION version_low version_high in
+    let is_number = number_of_version number number_low number_high in
     let report : Fields = record {
+      version = version_of number;
       level = level;
       epoch = epoch;
       k = k;
@@ -101,19 +105,25 @@ whole_entries es whole =
 
 -- ---- decoding
 
-decoded-long : (bytes : List ℕ) → MAX_FRAME < length bytes → decoded bytes ≡ Err (record { kind = TooLong; at = MAX_FRAME })
+pub decoded-long : (bytes : List ℕ) (limit : ℕ) → passed_limit bytes ≡ Some limit → decoded bytes ≡ Err (record { kind = TooLong; at = limit })
 unfolding decoded
-decoded-long bytes long = rw (lt-ltb MAX_FRAME (length bytes) long) refl
+decoded-long bytes limit is = ap (λ (l : Option ℕ). decoded_under l bytes) is
 
-pub decoded-short : (bytes : List ℕ) → length bytes ≤ MAX_FRAME → decoded bytes ≡ (read frame 0 bytes >>= λ es. Ok (fields_from es))
+pub decoded-short : (bytes : List ℕ) → passed_limit bytes ≡ None → decoded bytes ≡ (read frame 0 bytes >>= λ es. Ok (fields_from es))
 unfolding decoded
-decoded-short bytes short = rw (le-ltb MAX_FRAME (length bytes) short) refl
+decoded-short bytes is = ap (λ (l : Option ℕ). decoded_under l bytes) is
+
+-- a report is the one of its entries
+pub fields-entries : (r : Fields) → fields_from (entries r) ≡ r
+fields-entries r = ap (λ (v : Version). record r { version = v }) (version_of_number r.version)
 
 -- a frame decodes to its report
 pub decoded-frame : (r : Fields) (bytes : List ℕ) → IsFrame r bytes → decoded bytes ≡ Ok r
 decoded-frame r bytes frame_of_r =
     let entries_read : read frame 0 bytes ≡ Ok (entries r) = ap (read frame 0) frame_of_r.spelt ∙ read-whole frame 0 (entries r) frame_is_sound frame_of_r.range in
-    decoded-short bytes frame_of_r.short ∙ ap (λ (es : Result (List Entry) Fault). es >>= λ l. Ok (fields_from l)) entries_read
+    decoded-short bytes (keeps bytes (frame_is_short r bytes frame_of_r))
+    ∙ ap (λ (es : Result (List Entry) Fault). es >>= λ l. Ok (fields_from l)) entries_read
+    ∙ ap (λ (f : Fields). Ok f) (fields-entries r)
 
 -- a place, counted from the front
 from_front : (n : ℕ) → 0 + n ≡ n
@@ -122,11 +132,12 @@ from_front n = omega arith
 -- and bytes with a fault to it
 pub decoded-fault : (bytes : List ℕ) (kind : FaultKind) (at : ℕ) → FaultAt bytes kind at → decoded bytes ≡ Err (record { kind = kind; at = at })
 decoded-fault bytes kind at fault = elim fault [
-  | inl long ↦ decoded-long bytes long.0 ∙ ap (λ (k : FaultKind). Err (record { kind = k; at = MAX_FRAME })) (sym long.1) ∙ ap (λ (p : ℕ). Err (record { kind = kind; at = p })) (sym long.2)
+  | inl long ↦ decoded-long bytes at (passes bytes at long.1) ∙ ap (λ (k : FaultKind). Err (record { kind = k; at = at })) (sym long.0)
   | inr wrong ↦
       let fault_read : read frame 0 bytes ≡ Err (record { kind = kind; at = 0 + length (spelling frame wrong.1.0) }) =
       ap (read frame 0) wrong.1.2 ∙ read-wrong frame 0 wrong.1.0 wrong.1.1 kind frame_is_sound wrong.1.4 in
-      decoded-short bytes wrong.0 ∙ ap (λ (es : Result (List Entry) Fault). es >>= λ l. Ok (fields_from l)) fault_read ∙ ap (λ (p : ℕ). Err (record { kind = kind; at = p })) (from_front _ ∙ sym wrong.1.3)
+      decoded-short bytes (keeps bytes wrong.0) ∙ ap (λ (es : Result (List Entry) Fault). es >>= λ l. Ok (fields_from l)) fault_read
+      ∙ ap (λ (p : ℕ). Err (record { kind = kind; at = p })) (from_front _ ∙ sym wrong.1.3)
 ]
 
 -- what bytes decode to
@@ -135,15 +146,16 @@ pub data DecodesTo (bytes : List ℕ) : Type 0 where
   ToFault : (fault : Fault) → FaultAt bytes fault.kind fault.at → decoded bytes ≡ Err fault → DecodesTo bytes
 
 pub decodes_to : (bytes : List ℕ) → AreBytes bytes → DecodesTo bytes
-decodes_to bytes are_bytes = elim (cases_lt MAX_FRAME (length bytes)) [
-  | inl long ↦ ToFault (record { kind = TooLong; at = MAX_FRAME }) (inl (long, refl, refl)) (decoded-long bytes long)
-  | inr short ↦ elim (found frame 0 bytes are_bytes) [
+decodes_to bytes are_bytes = elim (limit_step bytes) [
+  | Passes limit long is ↦ ToFault (record { kind = TooLong; at = limit }) (inl (refl, long)) (decoded-long bytes limit is)
+  | Keeps short is ↦ elim (found frame 0 bytes are_bytes) [
     | Whole es after parts is ↦
         let whole = whole_entries es after in
+        let spelt = parts ∙ ap (spelling frame) whole.is in
         let frame_of_report : IsFrame whole.report bytes = record {
           range = subst (λ (l : List Entry). After frame l IsEnd) whole.is after;
-          spelt = parts ∙ ap (spelling frame) whole.is;
-          short = short;
+          spelt = spelt;
+          short = short_enough whole.report bytes spelt short;
         } in
         ToReport whole.report frame_of_report (decoded-frame whole.report bytes frame_of_report)
     | Wrong es rest kind place after parts place_is is ↦

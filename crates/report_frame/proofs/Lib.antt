@@ -1,5 +1,7 @@
-pub mod Sizes
-pub mod Walk
-pub mod Frames
+mod Sizes
+mod VersionFacts
+mod Lengths
+mod Walk
+mod Frames
 pub mod FrameLaws
-pub mod Views
+mod Views

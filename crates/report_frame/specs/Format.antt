@@ -1,5 +1,5 @@
 -- A format of bytes as data: its fields from left to right, each with its size, its range and the fault of a value out
--- of that range. Each version of the frame is one table of this kind.
+-- of that range. A frame is one table of this kind, in which the version decides what follows it.
 use Rattle.std.specs.Prelude.{◌≡◌, ◌⊎◌, ℕ, ◌<◌, ◌≤◌, List, [], ◌∷◌, ◌++◌, length, take}
 use Rattle.std.specs.Int.{Width, w8, w16, w32, w64, byte_len, to_be_bytes, from_be_bytes}
 use Rattle.report_frame.specs.declared.fault.FaultKind.{FaultKind}
@@ -7,17 +7,17 @@ use Rattle.report_frame.specs.declared.fault.FaultKind.TheVariants.{Truncated, T
 
 -- how many bytes a number has
 pub data Size : Type 0 where
-  One : Size
-  Two : Size
-  Four : Size
-  Eight : Size
+  OneByte : Size
+  TwoBytes : Size
+  FourBytes : Size
+  EightBytes : Size
 
 -- the same as one of std's widths
 abbrev pub width : Size → Width
-width One = w8
-width Two = w16
-width Four = w32
-width Eight = w64
+width OneByte = w8
+width TwoBytes = w16
+width FourBytes = w32
+width EightBytes = w64
 
 -- the number of bytes
 abbrev pub bytes_of : Size → ℕ

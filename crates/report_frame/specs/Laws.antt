@@ -1,16 +1,17 @@
 -- What the laws of frames say.
 use Rattle.std.specs.Prelude.{◌≡◌, ℕ, ◌<◌, ◌≤◌, ◌^◌, List, length}
 use Rattle.field61.specs.declared.TheConstants.{MODULUS}
-use Rattle.report_frame.specs.declared.limits.TheConstants.{MAX_LEVEL, MIN_THRESHOLD, MAX_THRESHOLD, TAG_BYTES, CHECK_BYTES, MAX_VALUE, NONCE_BYTES, SEAL_BYTES}
+use Rattle.report_frame.specs.declared.limits.TheConstants.{MIN_THRESHOLD, TAG_BYTES, CHECK_BYTES, MAX_VALUE, NONCE_BYTES, SEAL_BYTES}
 use Rattle.report_frame.specs.declared.fault.Fault.{Fault}
+use Rattle.report_frame.specs.Versions.{max_level, max_threshold}
 use Rattle.report_frame.specs.Frame.{Fields, IsFrame, FaultAt}
 
 -- each field of the report is in its range
 pub record InRange (r : Fields) : Type 0 where
-  pub level : r.level ≤ MAX_LEVEL
+  pub level : r.level ≤ max_level r.version
   pub epoch : r.epoch < 2 ^ 32
   pub k_low : MIN_THRESHOLD ≤ r.k
-  pub k_high : r.k ≤ MAX_THRESHOLD
+  pub k_high : r.k ≤ max_threshold r.version
   pub x_low : 1 ≤ r.x
   pub x_high : r.x < MODULUS
   pub y0 : r.y0 < MODULUS

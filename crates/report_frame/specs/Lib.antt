@@ -1,3 +1,4 @@
+pub mod Versions
 pub mod Format
 pub mod Frame
 pub mod Reading

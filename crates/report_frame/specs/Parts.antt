@@ -7,6 +7,7 @@ use Rattle.report_frame.specs.Frame.{Fields, entries, frame, sealed_part}
 
 abbrev pub fields_of_parts : Parts → Fields
 fields_of_parts p = record {
+  version = p.front.version;
   level = p.front.level;
   epoch = p.front.epoch;
   k = p.front.k;

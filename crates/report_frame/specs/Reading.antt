@@ -1,10 +1,13 @@
 -- Reading bytes by a format from left to right, to all entries or to the first fault.
-use Rattle.std.specs.Prelude.{◌≡◌, ℕ, zero, suc, ◌+◌, List, [], ◌∷◌, length, take, drop, Result, Ok, Err, nat_lt, ◌||◌, if◌then◌else◌}
-use Rattle.report_frame.specs.declared.limits.TheConstants.{MAX_FRAME}
+use Rattle.std.specs.Prelude.{◌≡◌, ℕ, zero, suc, ◌+◌, List, [], ◌∷◌, length, take, drop, Option, Some, None, Result, Ok, Err, Bool, nat_lt, ◌||◌, ◌&&◌, if◌then◌else◌}
+use Rattle.std.specs.Str.{bytes_eq}
+use Rattle.report_frame.specs.declared.limits.TheConstants.{MAGIC, MAX_FRAME_ONE, MAX_FRAME_TWO}
 use Rattle.report_frame.specs.declared.fault.FaultKind.{FaultKind}
 use Rattle.report_frame.specs.declared.fault.FaultKind.TheVariants.{TooLong, Truncated, Trailing}
 use Rattle.report_frame.specs.declared.fault.Fault.{Fault}
-use Rattle.report_frame.specs.Format.{Size, Format, Entry, bytes_of, number_of}
+use Rattle.report_frame.specs.declared.version.Version.TheVariants.{One}
+use Rattle.report_frame.specs.Versions.{version_number, version_of}
+use Rattle.report_frame.specs.Format.{Size, Format, Entry, bytes_of, number_of, spelling}
 use Rattle.report_frame.specs.Format.Format.{End, NumberField, BytesField}
 use Rattle.report_frame.specs.Format.Entry.{Number, Bytes}
 use Rattle.report_frame.specs.Frame.{Fields, frame}
@@ -63,6 +66,7 @@ bytes_in (suc i) (e ∷ es) = bytes_in i es
 -- the report whose entries these are
 abbrev pub fields_from : List Entry → Fields
 fields_from es = record {
+  version = version_of (number_in 1 es);
   level = number_in 2 es;
   epoch = number_in 3 es;
   k = number_in 4 es;
@@ -78,8 +82,22 @@ fields_from es = record {
   seal = bytes_in 16 es;
 }
 
+-- whether the first three bytes are the magic and the number of version 1
+abbrev pub begins_as_one : List ℕ → Bool
+begins_as_one bytes = bytes_eq (spelling frame (Number MAGIC ∷ Number (version_number One) ∷ [])) (take 3 bytes)
+
+-- the limit that the bytes pass, where they are too long for a frame
+abbrev pub passed_limit : List ℕ → Option ℕ
+passed_limit bytes =
+    if nat_lt MAX_FRAME_TWO (length bytes) then Some MAX_FRAME_TWO
+    else if nat_lt MAX_FRAME_ONE (length bytes) && begins_as_one bytes then Some MAX_FRAME_ONE
+    else None
+
+-- what bytes that pass this limit or none give
+abbrev pub decoded_under : Option ℕ → List ℕ → Result Fields Fault
+decoded_under (Some limit) bytes = Err (record { kind = TooLong; at = limit })
+decoded_under None bytes = read frame 0 bytes >>= λ es. Ok (fields_from es)
+
 -- the report whose frame the bytes are, or their one fault
 unfoldable pub decoded : List ℕ → Result Fields Fault
-decoded bytes =
-    if nat_lt MAX_FRAME (length bytes) then Err (record { kind = TooLong; at = MAX_FRAME })
-    else read frame 0 bytes >>= λ es. Ok (fields_from es)
+decoded bytes = decoded_under (passed_limit bytes) bytes

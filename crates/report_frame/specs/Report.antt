@@ -1,12 +1,14 @@
 -- A report as a value, and whether it has a frame.
-use Rattle.std.specs.Prelude.{◌≡◌, ℕ, ◌+◌, ◌≤◌, length, slice_index}
-use Rattle.report_frame.specs.declared.limits.TheConstants.{FIXED_BYTES, MAX_FRAME, MAX_LEVEL, MAX_THRESHOLD, MIN_THRESHOLD}
+use Rattle.std.specs.Prelude.{◌+◌, ◌≤◌, length, slice_index}
+use Rattle.report_frame.specs.declared.limits.TheConstants.{FIXED_BYTES, MIN_THRESHOLD}
 use Rattle.report_frame.specs.declared.report.Report.{Report}
+use Rattle.report_frame.specs.Versions.{max_level, max_threshold, max_frame}
 use Rattle.report_frame.specs.Frame.{Fields}
 
 -- its fields
 abbrev pub fields_of_report : Report → Fields
 fields_of_report r = record {
+  version = r.head.version;
   level = r.level;
   epoch = r.epoch;
   k = r.head.k;
@@ -24,9 +26,9 @@ fields_of_report r = record {
 
 -- Each field is in its range, beside what its type says, and the frame isn't too long.
 pub record IsGood (r : Report) : Type 0 where
-  pub level : r.level ≤ MAX_LEVEL
+  pub level : r.level ≤ max_level r.head.version
   pub k_low : MIN_THRESHOLD ≤ r.head.k
-  pub k_high : r.head.k ≤ MAX_THRESHOLD
+  pub k_high : r.head.k ≤ max_threshold r.head.version
   pub x : 1 ≤ r.x
   pub body : 1 ≤ length r.body
-  pub short : FIXED_BYTES + length r.head.boxed + length r.body ≤ MAX_FRAME
+  pub short : FIXED_BYTES + length r.head.boxed + length r.body ≤ max_frame r.head.version

@@ -10,4 +10,4 @@ fields_of v = fields_of_parts v.parts
 
 -- what the members of its group have in common
 abbrev pub head_of : Fields → Head
-head_of r = record { k = r.k; tag = r.tag; check = r.check; boxed = r.boxed }
+head_of r = record { version = r.version; k = r.k; tag = r.tag; check = r.check; boxed = r.boxed }

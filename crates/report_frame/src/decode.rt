@@ -2,13 +2,16 @@
 ghost use Rattle.std.specs.Prelude.{◌≡◌, ℕ, IfOk, IsOkAnd, IfErr, IsErrOf};
 ghost use Rattle.report_frame.specs.declared.fault.FaultKind.{FaultKind};
 ghost use Rattle.report_frame.specs.Frame.{Fields, IsFrame, FaultAt};
-ghost use Rattle.report_frame.specs.Reading.{Gives, decoded};
+ghost use Rattle.report_frame.specs.Reading.{Gives, decoded, passed_limit};
 ghost use Rattle.report_frame.specs.View.{fields_of};
 
 use crate::fault::{Fault, FaultKind};
 use crate::frame::read_frame;
-use crate::limits::{MAX_FRAME, SEAL_BYTES};
+use crate::limits::{MAX_FRAME_ONE, MAX_FRAME_TWO, SEAL_BYTES};
 use crate::view::FrameView;
+
+// The magic and the number of version 1.
+const FRONT_OF_ONE: [u8; 3] = *b"ST\x01";
 
 /// The frame that the bytes are, or the one fault where they are none. The view borrows the bytes,
 /// and no memory is taken.
@@ -23,13 +26,26 @@ pub fn decode_view(bytes: &[u8]) -> Result<FrameView<'_>, Fault>
     ensures fault { IfErr result (λ f. FaultAt bytes.now f.kind f.at) }
     ensures one { (kind : FaultKind) (at : ℕ) → FaultAt bytes.now kind at → IsErrOf result (record { kind = kind; at = at }) }
 {
-    if bytes.len() > MAX_FRAME {
+    if let Some(at) = passed_limit(bytes) {
         return Err(Fault {
             kind: FaultKind::TooLong,
-            at: MAX_FRAME as u32,
+            at,
         });
     }
     let parts = read_frame(bytes)?;
     let (sealed, _) = bytes.split_at(bytes.len() - SEAL_BYTES);
     Ok(FrameView { parts, sealed })
+}
+
+// The limit that the bytes pass, where they are too long for a frame: a frame of version 1 has a lower one.
+fn passed_limit(bytes: &[u8]) -> Option<u32>
+    ensures { result ≡ passed_limit bytes.now }
+{
+    if bytes.len() > MAX_FRAME_TWO {
+        Some(MAX_FRAME_TWO as u32)
+    } else if bytes.len() > MAX_FRAME_ONE && bytes.starts_with(&FRONT_OF_ONE) {
+        Some(MAX_FRAME_ONE as u32)
+    } else {
+        None
+    }
 }

@@ -1,10 +1,14 @@
 // Reading one field after the other.
 ghost use Rattle.std.specs.Prelude.{◌≡◌, ◌-◌, ◌^◌, [], length, IfOk};
-ghost use Rattle.report_frame.specs.Format.Size.{One, Two, Four, Eight};
+ghost use Rattle.report_frame.specs.Format.Size.{OneByte, TwoBytes, FourBytes, EightBytes};
+ghost use Rattle.report_frame.specs.declared.version.Version.TheVariants.{One, Two};
 ghost use Rattle.report_frame.specs.Reading.{Gives, number_at, bytes_at, end_at};
+ghost use Rattle.report_frame.specs.Versions.{version_number};
 
 use crate::fault::{Fault, FaultKind};
-use crate::limits::{MAGIC, VERSION};
+use crate::limits::MAGIC;
+use crate::places::VERSION_AT;
+use crate::version::Version;
 use field61::MODULUS;
 
 /// So many bytes, and what follows them.
@@ -42,7 +46,7 @@ pub(crate) fn read_u8(
     low: u8,
     high: u8,
 ) -> Result<(u8, &[u8]), Fault>
-    ensures { Gives (λ x. (x.0, x.1.now)) result (number_at One kind low high at bytes.now) }
+    ensures { Gives (λ x. (x.0, x.1.now)) result (number_at OneByte kind low high at bytes.now) }
 {
     let (front, rest) = read_bytes(bytes, at, 1)?;
     let n = front[0];
@@ -60,7 +64,7 @@ pub(crate) fn read_u16(
     low: u16,
     high: u16,
 ) -> Result<(u16, &[u8]), Fault>
-    ensures { Gives (λ x. (x.0, x.1.now)) result (number_at Two kind low high at bytes.now) }
+    ensures { Gives (λ x. (x.0, x.1.now)) result (number_at TwoBytes kind low high at bytes.now) }
 {
     let (front, rest) = read_bytes(bytes, at, 2)?;
     let n = u16::from_be_bytes([front[0], front[1]]);
@@ -72,7 +76,7 @@ pub(crate) fn read_u16(
 
 /// Any number of four bytes.
 pub(crate) fn read_u32(bytes: &[u8], at: u32) -> Result<(u32, &[u8]), Fault>
-    ensures { Gives (λ x. (x.0, x.1.now)) result (number_at Four FaultKind.Truncated 0 (2 ^ 32 - 1) at bytes.now) }
+    ensures { Gives (λ x. (x.0, x.1.now)) result (number_at FourBytes FaultKind.Truncated 0 (2 ^ 32 - 1) at bytes.now) }
 {
     let (front, rest) = read_bytes(bytes, at, 4)?;
     Ok((
@@ -88,7 +92,7 @@ pub(crate) fn read_element(
     kind: FaultKind,
     low: u64,
 ) -> Result<(u64, &[u8]), Fault>
-    ensures { Gives (λ x. (x.0, x.1.now)) result (number_at Eight kind low (MODULUS - 1) at bytes.now) }
+    ensures { Gives (λ x. (x.0, x.1.now)) result (number_at EightBytes kind low (MODULUS - 1) at bytes.now) }
 {
     let (front, rest) = read_bytes(bytes, at, 8)?;
     let n = u64::from_be_bytes([
@@ -102,18 +106,25 @@ pub(crate) fn read_element(
 
 /// What follows the magic.
 pub(crate) fn skip_magic(bytes: &[u8]) -> Result<&[u8], Fault>
-    ensures { Gives (λ rest. (MAGIC, rest.now)) result (number_at Two FaultKind.Magic MAGIC MAGIC 0 bytes.now) }
+    ensures { Gives (λ rest. (MAGIC, rest.now)) result (number_at TwoBytes FaultKind.Magic MAGIC MAGIC 0 bytes.now) }
 {
     let (_, rest) = read_u16(bytes, 0, FaultKind::Magic, MAGIC, MAGIC)?;
     Ok(rest)
 }
 
-/// What follows the version.
-pub(crate) fn skip_version(bytes: &[u8]) -> Result<&[u8], Fault>
-    ensures { Gives (λ rest. (VERSION, rest.now)) result (number_at One FaultKind.Version VERSION VERSION 2 bytes.now) }
+/// The version, and what follows it.
+pub(crate) fn read_version(bytes: &[u8]) -> Result<(Version, &[u8]), Fault>
+    ensures { Gives (λ x. (version_number x.0, x.1.now)) result
+        (number_at OneByte FaultKind.Version (version_number One) (version_number Two) VERSION_AT bytes.now) }
 {
-    let (_, rest) = read_u8(bytes, 2, FaultKind::Version, VERSION, VERSION)?;
-    Ok(rest)
+    let (front, rest) = read_bytes(bytes, VERSION_AT, 1)?;
+    match Version::of(front[0]) {
+        Some(version) => Ok((version, rest)),
+        None => Err(Fault {
+            kind: FaultKind::Version,
+            at: VERSION_AT,
+        }),
+    }
 }
 
 /// Nothing may follow the seal.

@@ -6,14 +6,15 @@ ghost use Rattle.report_frame.specs.Parts.{fields_of_parts, back_entries};
 
 use crate::fault::{Fault, FaultKind};
 use crate::fields::{
-    read_array, read_bytes, read_element, read_end, read_u8, read_u16, read_u32, skip_magic,
-    skip_version,
+    read_array, read_bytes, read_element, read_end, read_u8, read_u16, read_u32, read_version,
+    skip_magic,
 };
-use crate::limits::{
-    CHECK_BYTES, MAX_LEVEL, MAX_THRESHOLD, MAX_VALUE, MIN_THRESHOLD, NONCE_BYTES, SEAL_BYTES,
-    TAG_BYTES,
-};
+use crate::limits::{CHECK_BYTES, MAX_VALUE, MIN_THRESHOLD, NONCE_BYTES, SEAL_BYTES, TAG_BYTES};
 use crate::parts::{Front, Parts};
+use crate::places::{
+    BOX_AT, BOX_LENGTH_AT, CHECK_AT, EPOCH_AT, FIRST_SHARE_AT, LEVEL_AT, POINT_AT, SECOND_SHARE_AT,
+    TAG_AT, THIRD_SHARE_AT, THRESHOLD_AT,
+};
 
 /// The fields of a frame, or the first fault, whatever its length.
 #[tactic(auto, unfolding(crate::specs::Reading::read))]
@@ -21,17 +22,25 @@ pub(crate) fn read_frame(bytes: &[u8]) -> Result<Parts<'_>, Fault>
     ensures { Gives (λ p. entries (fields_of_parts p)) result (read frame 0 bytes.now) }
 {
     let rest = skip_magic(bytes)?;
-    let rest = skip_version(rest)?;
-    let (level, rest) = read_u8(rest, 3, FaultKind::Level, 0, MAX_LEVEL)?;
-    let (epoch, rest) = read_u32(rest, 4)?;
-    let (k, rest) = read_u16(rest, 8, FaultKind::Threshold, MIN_THRESHOLD, MAX_THRESHOLD)?;
-    let (x, rest) = read_element(rest, 10, FaultKind::Point, 1)?;
-    let (y0, rest) = read_element(rest, 18, FaultKind::Share, 0)?;
-    let (y1, rest) = read_element(rest, 26, FaultKind::Share, 0)?;
-    let (y2, rest) = read_element(rest, 34, FaultKind::Share, 0)?;
-    let (tag, rest) = read_array::<TAG_BYTES>(rest, 42)?;
-    let (check, rest) = read_array::<CHECK_BYTES>(rest, 58)?;
+    let (version, rest) = read_version(rest)?;
+    let (level, rest) = read_u8(rest, LEVEL_AT, FaultKind::Level, 0, version.max_level())?;
+    let (epoch, rest) = read_u32(rest, EPOCH_AT)?;
+    let high = version.max_threshold();
+    let (k, rest) = read_u16(
+        rest,
+        THRESHOLD_AT,
+        FaultKind::Threshold,
+        MIN_THRESHOLD,
+        high,
+    )?;
+    let (x, rest) = read_element(rest, POINT_AT, FaultKind::Point, 1)?;
+    let (y0, rest) = read_element(rest, FIRST_SHARE_AT, FaultKind::Share, 0)?;
+    let (y1, rest) = read_element(rest, SECOND_SHARE_AT, FaultKind::Share, 0)?;
+    let (y2, rest) = read_element(rest, THIRD_SHARE_AT, FaultKind::Share, 0)?;
+    let (tag, rest) = read_array::<TAG_BYTES>(rest, TAG_AT)?;
+    let (check, rest) = read_array::<CHECK_BYTES>(rest, CHECK_AT)?;
     let front = Front {
+        version,
         level,
         epoch,
         k,
@@ -48,12 +57,18 @@ pub(crate) fn read_frame(bytes: &[u8]) -> Result<Parts<'_>, Fault>
 // The fields from the box on.
 #[tactic(auto, unfolding(crate::specs::Reading::read))]
 fn read_back<'a>(front: Front<'a>, bytes: &'a [u8]) -> Result<Parts<'a>, Fault>
-    ensures back { Gives back_entries result (read back 90 bytes.now) }
+    ensures back { Gives back_entries result (read back BOX_LENGTH_AT bytes.now) }
     ensures front { IfOk result (λ p. p.front ≡ front.entry) }
 {
-    let (size, rest) = read_u8(bytes, 90, FaultKind::BoxLength, 1, MAX_VALUE as u8)?;
-    let (boxed, rest) = read_bytes(rest, 91, size as usize)?;
-    let at = 91 + u32::from(size);
+    let (size, rest) = read_u8(
+        bytes,
+        BOX_LENGTH_AT,
+        FaultKind::BoxLength,
+        1,
+        MAX_VALUE as u8,
+    )?;
+    let (boxed, rest) = read_bytes(rest, BOX_AT, size as usize)?;
+    let at = BOX_AT + u32::from(size);
     let (nonce, rest) = read_array::<NONCE_BYTES>(rest, at)?;
     let at = at + NONCE_BYTES as u32;
     let (size, rest) = read_u16(rest, at, FaultKind::BodyLength, 1, u16::MAX)?;

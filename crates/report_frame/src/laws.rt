@@ -3,11 +3,27 @@
 ghost use Rattle.std.specs.Prelude.{◌≡◌, ◌⊎◌, ◌↔◌, ◌+◌, ◌++◌, ◌≤◌, [], length, List, ℕ, Ok, Err};
 ghost use Rattle.star_io.specs.Bytes.{AreBytes};
 ghost use Rattle.report_frame.specs.declared.fault.Fault.{Fault};
-ghost use Rattle.report_frame.specs.declared.limits.TheConstants.{FIXED_BYTES, MAX_FRAME};
+ghost use Rattle.report_frame.specs.declared.limits.TheConstants.{MAGIC, MAX_LAYERS, MIN_THRESHOLD, TAG_BYTES, CHECK_BYTES, MAX_VALUE, NONCE_BYTES, SEAL_BYTES, FRONT_BYTES, FIXED_BYTES, MAX_EXTRA};
+ghost use Rattle.report_frame.specs.declared.version.Version.TheVariants.{One, Two};
 ghost use Rattle.report_frame.specs.Format.{spelling};
 ghost use Rattle.report_frame.specs.Frame.{Fields, IsFrame, FaultAt, entries, frame, sealed_part};
 ghost use Rattle.report_frame.specs.Laws.{InRange, IsOneFrame, HasOneFault};
 ghost use Rattle.report_frame.specs.Reading.{decoded};
+ghost use Rattle.report_frame.specs.Versions.{version_number, version_of, max_level, max_layers, max_threshold, max_frame};
+
+/// The limits of both versions, and the sizes of the fields, in plain numbers.
+pub fn limits()
+    ensures magic { MAGIC ≡ 21332 }
+    ensures numbers { (version_number One ≡ 1) × (version_number Two ≡ 2) }
+    ensures versions { (version_of 1 ≡ One) × (version_of 2 ≡ Two) }
+    ensures levels { (max_level One ≡ 7) × (max_level Two ≡ 15) }
+    ensures layers { (max_layers One ≡ 8) × (max_layers Two ≡ 16) × (MAX_LAYERS ≡ 16) }
+    ensures thresholds { (MIN_THRESHOLD ≡ 2) × (max_threshold One ≡ 512) × (max_threshold Two ≡ 4096) }
+    ensures frames { (max_frame One ≡ 4096) × (max_frame Two ≡ 8192) }
+    ensures bytes { (MAX_VALUE ≡ 64) × (MAX_EXTRA ≡ 255) }
+    ensures sizes { (TAG_BYTES ≡ 16) × (CHECK_BYTES ≡ 32) × (NONCE_BYTES ≡ 12) × (SEAL_BYTES ≡ 32) }
+    ensures fixed { (FRONT_BYTES ≡ 90) × (FIXED_BYTES ≡ 137) }
+{}
 
 /// A report has one spelling.
 #[tactic(auto, using(crate::proofs::FrameLaws::one_spelling))]
@@ -51,7 +67,7 @@ pub fn in_range()
 /// Each report with fields in range has a frame, unless box and body are too long for one.
 #[tactic(auto, using(crate::proofs::FrameLaws::has_frame))]
 pub fn has_frame()
-    ensures { (r : Fields) → InRange r → FIXED_BYTES + length r.boxed + length r.body ≤ MAX_FRAME → IsFrame r (spelling frame (entries r)) }
+    ensures { (r : Fields) → InRange r → FIXED_BYTES + length r.boxed + length r.body ≤ max_frame r.version → IsFrame r (spelling frame (entries r)) }
 {}
 
 /// The length of a frame.
@@ -64,4 +80,10 @@ pub fn frame_length()
 #[tactic(auto, using(crate::proofs::FrameLaws::sealed_then_seal))]
 pub fn sealed_then_seal()
     ensures { (r : Fields) (bytes : List ℕ) → IsFrame r bytes → bytes ≡ sealed_part r ++ r.seal }
+{}
+
+/// What stands before the seal and any seal are together the frame of the report with that seal.
+#[tactic(auto, using(crate::proofs::FrameLaws::has_sealed_frame))]
+pub fn has_sealed_frame()
+    ensures { (r : Fields) → InRange r → FIXED_BYTES + length r.boxed + length r.body ≤ max_frame r.version → IsFrame r (sealed_part r ++ r.seal) }
 {}

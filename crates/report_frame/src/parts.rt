@@ -1,10 +1,12 @@
 // A frame in parts, as it is read.
 
 use crate::limits::{CHECK_BYTES, NONCE_BYTES, SEAL_BYTES, TAG_BYTES};
+use crate::version::Version;
 
 /// The fields before the box.
 #[derive(Clone, Copy)]
 pub(crate) struct Front<'a> {
+    pub(crate) version: Version,
     pub(crate) level: u8,
     pub(crate) epoch: u32,
     pub(crate) k: u16,

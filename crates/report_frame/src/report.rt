@@ -2,9 +2,7 @@ ghost use Rattle.std.specs.Prelude.{◌↔◌, IsTrue};
 ghost use Rattle.report_frame.specs.Report.{IsGood};
 
 use crate::head::Head;
-use crate::limits::{
-    FIXED_BYTES, MAX_FRAME, MAX_LEVEL, MAX_THRESHOLD, MIN_THRESHOLD, NONCE_BYTES, SEAL_BYTES,
-};
+use crate::limits::{FIXED_BYTES, MIN_THRESHOLD, NONCE_BYTES, SEAL_BYTES};
 use field61::Fe;
 use star_io::Bytes;
 
@@ -31,11 +29,12 @@ impl Report {
     pub fn is_good(&self) -> bool
         ensures { IsTrue result ↔ IsGood self.now }
     {
-        let most = MAX_FRAME - FIXED_BYTES - self.head.boxed.as_slice().len();
+        let version = self.head.version;
+        let most = version.max_frame() - FIXED_BYTES - self.head.boxed.as_slice().len();
         let body = self.body.as_slice();
-        self.level <= MAX_LEVEL
+        self.level <= version.max_level()
             && MIN_THRESHOLD <= self.head.k
-            && self.head.k <= MAX_THRESHOLD
+            && self.head.k <= version.max_threshold()
             && self.x.value() != 0
             && !body.is_empty()
             && body.len() <= most

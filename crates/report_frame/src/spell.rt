@@ -1,11 +1,11 @@
 // The frame of a report.
-ghost use Rattle.std.specs.Prelude.{◌≡◌, ◌++◌, ◌+◌, Ok, length, IfOk};
+ghost use Rattle.std.specs.Prelude.{◌≡◌, ◌++◌, ◌+◌, ◌-◌, Ok, length, IfOk};
 ghost use Rattle.report_frame.specs.Frame.{IsFrame, frame, sealed_part, front_entries};
 ghost use Rattle.report_frame.specs.Format.{spelling};
 ghost use Rattle.report_frame.specs.Reading.{decoded};
 ghost use Rattle.report_frame.specs.Report.{IsGood, fields_of_report};
 
-use crate::limits::{FIXED_BYTES, MAGIC, VERSION};
+use crate::limits::{FIXED_BYTES, FRONT_BYTES, MAGIC, SEAL_BYTES};
 use crate::ranges::know_ranges;
 use crate::report::Report;
 use star_io::NoMemory;
@@ -24,17 +24,18 @@ pub fn encode(alloc: Global, report: &Report) -> Result<Vec<u8>, NoMemory>
         length bytes.items ≡ FIXED_BYTES + length report.now.head.boxed + length report.now.body) }
 {
     know_ranges(report);
-    let mut frame = spell_sealed_part(alloc, report)?;
+    let mut frame = encode_sealed_part(alloc, report)?;
     frame.extend_from_slice(&report.seal)?;
     Ok(frame)
 }
 
-// The frame without its seal, with room for it.
-fn spell_sealed_part(alloc: Global, report: &Report) -> Result<Vec<u8>, NoMemory>
+/// The part of the report's frame that stands before the seal and that the seal is made over, with
+/// room for the seal. It doesn't depend on the seal that the report has.
+pub fn encode_sealed_part(alloc: Global, report: &Report) -> Result<Vec<u8>, NoMemory>
     requires { IsGood report.now }
     ensures part { IfOk result (λ bytes. bytes.items ≡ sealed_part (fields_of_report report.now)) }
     ensures long { IfOk result (λ bytes.
-        length bytes.items ≡ 105 + length report.now.head.boxed + length report.now.body) }
+        length bytes.items ≡ FIXED_BYTES - SEAL_BYTES + length report.now.head.boxed + length report.now.body) }
 {
     let boxed = report.head.boxed.as_slice();
     let body = report.body.as_slice();
@@ -51,12 +52,12 @@ fn spell_sealed_part(alloc: Global, report: &Report) -> Result<Vec<u8>, NoMemory
 fn spell_front(alloc: Global, report: &Report) -> Result<Vec<u8>, NoMemory>
     requires { IsGood report.now }
     ensures front { IfOk result (λ bytes. bytes.items ≡ spelling frame (front_entries (fields_of_report report.now))) }
-    ensures long { IfOk result (λ bytes. length bytes.items ≡ 90) }
+    ensures long { IfOk result (λ bytes. length bytes.items ≡ FRONT_BYTES) }
 {
     let length = FIXED_BYTES + report.head.boxed.as_slice().len() + report.body.as_slice().len();
     let mut frame = Vec::with_capacity(alloc, length)?;
     frame.extend_from_slice(&MAGIC.to_be_bytes())?;
-    frame.push(VERSION)?;
+    frame.push(report.head.version.number())?;
     frame.push(report.level)?;
     frame.extend_from_slice(&report.epoch.to_be_bytes())?;
     frame.extend_from_slice(&report.head.k.to_be_bytes())?;

@@ -30,10 +30,20 @@ fn fault_of(bytes: &[u8]) -> Option<(FaultKind, u32)> {
 fn names_the_first_fault(rt: HostRuntime) {
     let modulus = 0x1fff_ffff_ffff_ffff_u64.to_be_bytes();
     let greatest = 0x1fff_ffff_ffff_fffe_u64.to_be_bytes();
-    let cases: [(usize, &[u8], Option<(FaultKind, u32)>); 22] = [
+    let cases: [(usize, &[u8], Option<(FaultKind, u32)>); 28] = [
         (0, &[], None),
         (0, &[0x54], Some((FaultKind::Magic, 0))),
-        (2, &[2], Some((FaultKind::Version, 2))),
+        (2, &[0], Some((FaultKind::Version, 2))),
+        (2, &[3], Some((FaultKind::Version, 2))),
+        (2, &[2], None),
+        (2, &[2, 15], None),
+        (2, &[2, 16], Some((FaultKind::Level, 3))),
+        (2, &[2, 0, 0, 0, 0, 1, 16, 0], None),
+        (
+            2,
+            &[2, 0, 0, 0, 0, 1, 16, 1],
+            Some((FaultKind::Threshold, 8)),
+        ),
         (3, &[8], Some((FaultKind::Level, 3))),
         (3, &[7], None),
         (8, &[0, 1], Some((FaultKind::Threshold, 8))),
@@ -71,14 +81,28 @@ fn names_the_fault_of_an_end(rt: HostRuntime) {
 }
 
 #[test]
-fn reads_at_most_4096_bytes(rt: HostRuntime) {
-    let mut bytes = [0; 4097];
+fn reads_at_most_so_many_bytes(rt: HostRuntime) {
+    let mut bytes = [0; 8193];
     bytes[..18].copy_from_slice(FRONT);
     bytes[90] = 64;
     bytes[167..169].copy_from_slice(&3895_u16.to_be_bytes());
     assert_eq!(rt; fault_of(&bytes[..4096]), None);
-    assert_eq!(rt; fault_of(&bytes), Some((FaultKind::TooLong, 4096)));
-    assert_eq!(rt; fault_of(&[0x53; 4097]), Some((FaultKind::TooLong, 4096)));
+    assert_eq!(rt; fault_of(&bytes[..4097]), Some((FaultKind::TooLong, 4096)));
+    bytes[2] = 2;
+    bytes[167..169].copy_from_slice(&7991_u16.to_be_bytes());
+    assert_eq!(rt; fault_of(&bytes[..8192]), None);
+    assert_eq!(rt; fault_of(&bytes), Some((FaultKind::TooLong, 8192)));
+}
+
+#[test]
+fn too_many_bytes_of_version_1_come_first(rt: HostRuntime) {
+    let mut bytes = [0; 8193];
+    assert_eq!(rt; fault_of(&bytes[..4097]), Some((FaultKind::Magic, 0)));
+    bytes[..3].copy_from_slice(b"ST\x01");
+    assert_eq!(rt; fault_of(&bytes[..4096]), Some((FaultKind::Threshold, 8)));
+    assert_eq!(rt; fault_of(&bytes[..4097]), Some((FaultKind::TooLong, 4096)));
+    assert_eq!(rt; fault_of(&bytes[..8192]), Some((FaultKind::TooLong, 4096)));
+    assert_eq!(rt; fault_of(&bytes), Some((FaultKind::TooLong, 8192)));
 }
 
 #[test]
@@ -97,12 +121,14 @@ fn shows_each_field(rt: HostRuntime) -> Result<(), Fault> {
     bytes[105..110].copy_from_slice(b"\x00\x03abc");
     bytes[110..].fill(0x44);
     let view = decode_view(&bytes)?;
+    assert_eq!(rt; view.version(), Version::One);
     assert_eq!(rt; view.level(), 3);
     assert_eq!(rt; view.epoch(), 0x01020304);
     assert_eq!(rt; view.k(), 10);
     assert_eq!(rt; view.x().value(), 5);
     assert_eq!(rt; view.y().map(Fe::value), [6, 7, 8]);
     let head = view.head();
+    assert_eq!(rt; head.version, Version::One);
     assert_eq!(rt; head.k, 10);
     assert_eq!(rt; head.tag, [0x11; 16]);
     assert_eq!(rt; head.check, [0x22; 32]);

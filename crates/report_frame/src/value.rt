@@ -62,10 +62,6 @@ impl Value {
     pub fn copy(&self) -> Value
         ensures { result ≡ self.now }
     {
-        let mut held = ArrayVec::new();
-        for byte in self.bytes.as_slice() {
-            held.push(*byte);
-        }
-        Value { bytes: held }
+        Value::of(self.as_slice()).unwrap()
     }
 }

@@ -6,6 +6,7 @@ use crate::head::Head;
 use crate::limits::{NONCE_BYTES, SEAL_BYTES};
 use crate::parts::Parts;
 use crate::value::Value;
+use crate::version::Version;
 use field61::Fe;
 
 /// A frame, by its fields. Nothing is copied: the fields of bytes are slices of those that were read.
@@ -18,7 +19,23 @@ pub struct FrameView<'a> {
 
 impl<'a> FrameView<'a> {
     ghost use Rattle.report_frame.specs.Frame.{sealed_part};
+    ghost use Rattle.report_frame.specs.Laws.{InRange};
     ghost use Rattle.report_frame.specs.View.{fields_of, head_of};
+
+    /// Does nothing when it runs. It makes known that each field of a frame is in its range.
+    #[tactic(auto, using(crate::proofs::FrameLaws::range_of_entries))]
+    pub fn know_ranges(&self)
+        ensures { InRange (fields_of self.now) }
+    {
+        let _parts = self.parts;
+    }
+
+    /// The version.
+    pub fn version(&self) -> Version
+        ensures { result ≡ (fields_of self.now).version }
+    {
+        self.parts.front.version
+    }
 
     /// The level, from 0.
     pub fn level(&self) -> u8
@@ -66,6 +83,7 @@ impl<'a> FrameView<'a> {
         ensures { result ≡ head_of (fields_of self.now) }
     {
         Head {
+            version: self.parts.front.version,
             k: self.parts.front.k,
             tag: *self.parts.front.tag,
             check: *self.parts.front.check,

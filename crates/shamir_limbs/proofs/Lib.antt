@@ -1,5 +1,5 @@
-pub mod KeyLines
+mod KeyLines
 pub mod LimbLaws
 pub mod LineSearch
 pub mod LowBytes
-pub mod OnAll
+mod OnAll

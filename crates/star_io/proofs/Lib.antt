@@ -1,6 +1,6 @@
 pub mod ByteLists
 mod Calls
-pub mod KnownBytes
+mod KnownBytes
 mod NextRecord
 pub mod RecordListLaws
 pub mod RecordLaws

@@ -1,5 +1,5 @@
 -- Why a run ends as it does, whatever its command is.
-use Rattle.std.proofs.Common.{◌≡◌, ◌∙◌, ℕ, Bool, true, false, List, [], ◌++◌, Option, Some, None, Result, Ok, Err, refl, sym, ap, subst, inl}
+use Rattle.std.proofs.Common.{◌≡◌, ◌∙◌, Bool, true, false, Result, Ok, Err, refl, sym, subst, inl}
 use Rattle.std.specs.Prelude.{IfErr, IsErrAnd}
 use Rattle.star_io.specs.Faults.{Rose}
 use Rattle.command_words.specs.declared.command.Command.{Command}
@@ -22,6 +22,11 @@ true_and false P is p = is
 pub of_error : {T : Type 0} (P : Status → Type 0) (result : Result T Status) (status : Status) → IsErrAnd result (λ error. error ≡ status) → P status → IfErr result P
 of_error P (Ok x) status is holds = tt
 of_error P (Err error) status is holds = subst P (sym is) holds
+
+-- an error that is handed on is that error
+pub same_error : {T E : Type 0} (result : Result T E) (error other : E) → IsErrAnd result (λ e. e ≡ error) → result ≡ Err other → error ≡ other
+same_error (Ok x) error other is here = absurd is
+same_error (Err e) error other is here = let same : e ≡ other = cc here in sym is ∙ same
 
 -- ---- why there is no output
 

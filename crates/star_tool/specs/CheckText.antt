@@ -3,7 +3,9 @@ use Rattle.std.specs.Prelude.{◌≡◌, ℕ, ◌+◌, List, [], ◌∷◌, ◌+
 use Rattle.std.specs.Fmt.{decimal}
 use Rattle.star_io.specs.declared.record.Record.{Record}
 use Rattle.star_io.specs.declared.record.Record.TheVariants.{Whole, TooLong, CutLength, CutRecord}
-use Rattle.report_frame.specs.declared.limits.TheConstants.{MAX_FRAME}
+use Rattle.star_io.specs.declared.record.TheConstants.{MAX_RECORD_BYTES}
+use Rattle.report_frame.specs.declared.version.Version.{Version}
+use Rattle.report_frame.specs.declared.version.Version.TheVariants as version
 use Rattle.report_frame.specs.declared.fault.Fault.{Fault}
 use Rattle.report_frame.specs.Frame.{Fields}
 use Rattle.report_frame.specs.Reading.{decoded}
@@ -21,7 +23,7 @@ finding_of_frame (Err fault) = Refused (name_of fault.kind) fault.at
 
 abbrev pub finding_of : Record → Finding
 finding_of (Whole bytes) = finding_of_frame (decoded bytes)
-finding_of (TooLong said) = Refused (codes "TooLong") MAX_FRAME
+finding_of (TooLong said) = Refused (codes "TooLong") MAX_RECORD_BYTES
 finding_of (CutLength have) = Refused (codes "CutLength") have
 finding_of (CutRecord said have) = Refused (codes "CutRecord") have
 
@@ -29,15 +31,20 @@ abbrev pub is_good : Finding → Bool
 is_good (Good fields) = true
 is_good (Refused name at) = false
 
-abbrev pub good_head : (i level epoch : ℕ) → List ℕ
-good_head i level epoch = decimal i ++ codes " good level=" ++ decimal level ++ codes " epoch=" ++ decimal epoch
+-- the version is named where it isn't the first
+abbrev pub version_text : Version → List ℕ
+version_text version.One = []
+version_text version.Two = codes " version=2"
+
+abbrev pub good_head : (i : ℕ) → Version → (level epoch : ℕ) → List ℕ
+good_head i version level epoch = decimal i ++ codes " good" ++ version_text version ++ codes " level=" ++ decimal level ++ codes " epoch=" ++ decimal epoch
 
 abbrev pub good_tail : (k box body : ℕ) → List ℕ
 good_tail k box body = codes " k=" ++ decimal k ++ codes " box=" ++ decimal box ++ codes " body=" ++ decimal body ++ codes "\n"
 
 -- the line of record i
 abbrev pub line : ℕ → Finding → List ℕ
-line i (Good r) = good_head i r.level r.epoch ++ good_tail r.k (length r.boxed) (length r.body)
+line i (Good r) = good_head i r.version r.level r.epoch ++ good_tail r.k (length r.boxed) (length r.body)
 line i (Refused name at) = decimal i ++ codes " refused " ++ name ++ codes " " ++ decimal at ++ codes "\n"
 
 -- the lines of findings whose records are numbered from i

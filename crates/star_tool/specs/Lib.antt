@@ -1,8 +1,8 @@
-pub mod BadPlace
 pub mod CheckText
 pub mod Coins
 pub mod Commands
 pub mod FileState
+pub mod Rows
 pub mod Run
 pub mod Seen
 pub mod SelfTestText

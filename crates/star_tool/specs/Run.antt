@@ -1,5 +1,5 @@
 -- What a run does with an input, coins and an output, whatever its command is.
-use Rattle.std.specs.Prelude.{◌≡◌, ◌⊎◌, ◌&&◌, ℕ, List, [], length, Bool, true, false, nat_lt, MatchBool, Option, Some, None, Result, Ok, Err, ⊤, Vec, if◌then◌else◌}
+use Rattle.std.specs.Prelude.{◌≡◌, ◌⊎◌, ◌&&◌, ℕ, List, [], length, Bool, true, false, nat_lt, MatchBool, Some, None, Result, Ok, Err, ⊤, Vec, if◌then◌else◌}
 use Rattle.std.specs.declared.alloc.Global.{Global}
 use Rattle.std.specs.Bool.{OnTrue}
 use Rattle.star_io.specs.Faults.{Rose}

@@ -2,12 +2,12 @@
 ghost use Rattle.std.specs.Prelude.{◌≡◌, ◌≤◌, ◌++◌, length, IfOk, OnOk, string_bytes};
 ghost use Rattle.std.specs.Fmt.{decimal};
 ghost use Rattle.report_frame.specs.View.{fields_of};
-ghost use Rattle.star_tool.specs.CheckText.{WritesLine, finding_of, check_text_of, line, good_head, good_tail, count_line};
+ghost use Rattle.star_tool.specs.CheckText.{WritesLine, finding_of, check_text_of, line, version_text, good_head, good_tail, count_line};
 ghost use Rattle.star_tool.specs.CheckText.Finding.{Good, Refused};
 ghost use Rattle.star_io.specs.declared.record.Record.TheVariants.{Whole};
 
-use report_frame::{FrameView, MAX_FRAME, decode_view};
-use star_io::{MAX_RECORDS, NoMemory, Record};
+use report_frame::{FrameView, Version, decode_view};
+use star_io::{MAX_RECORD_BYTES, MAX_RECORDS, NoMemory, Record};
 use std::alloc::{AllocError, Global};
 use std::fmt::Write;
 
@@ -36,7 +36,7 @@ fn push_line(text: &mut String, number: u32, entry: &Record) -> Result<bool, All
     match entry {
         Record::Whole(bytes) => push_whole(text, number, bytes.as_slice()),
         Record::TooLong { .. } => {
-            push_refused(text, number, "TooLong", MAX_FRAME as u32)?;
+            push_refused(text, number, "TooLong", MAX_RECORD_BYTES)?;
             Ok(false)
         }
         Record::CutLength { have } => {
@@ -74,18 +74,35 @@ fn push_refused(text: &mut String, number: u32, name: &str, at: u32) -> Result<(
 fn push_good(text: &mut String, number: u32, view: &FrameView<'_>) -> Result<(), AllocError>
     ensures { OnOk result (string_bytes text.new ≡ string_bytes text.old ++ line number (Good (fields_of view.now))) }
 {
-    push_good_head(text, number, view.level(), view.epoch())?;
+    push_good_head(text, number, view.version(), view.level(), view.epoch())?;
     push_good_tail(text, view.k(), view.boxed().len(), view.body().len())?;
     Ok(())
 }
 
-fn push_good_head(text: &mut String, number: u32, level: u8, epoch: u32) -> Result<(), AllocError>
-    ensures { OnOk result (string_bytes text.new ≡ string_bytes text.old ++ good_head number level epoch) }
+fn push_good_head(
+    text: &mut String,
+    number: u32,
+    version: Version,
+    level: u8,
+    epoch: u32,
+) -> Result<(), AllocError>
+    ensures { OnOk result (string_bytes text.new ≡ string_bytes text.old ++ good_head number version level epoch) }
 {
-    write!(text, "{number}")?;
-    push_number(text, " good level=", u64::from(level))?;
+    write!(text, "{number} good")?;
+    push_version(text, version)?;
+    push_number(text, " level=", u64::from(level))?;
     push_number(text, " epoch=", u64::from(epoch))?;
     Ok(())
+}
+
+// Names a version that isn't the first.
+fn push_version(text: &mut String, version: Version) -> Result<(), AllocError>
+    ensures { OnOk result (string_bytes text.new ≡ string_bytes text.old ++ version_text version) }
+{
+    match version {
+        Version::One => Ok(()),
+        Version::Two => text.push_str(" version=2"),
+    }
 }
 
 fn push_good_tail(text: &mut String, k: u16, boxed: usize, body: usize) -> Result<(), AllocError>

@@ -4,6 +4,7 @@ ghost use Rattle.std.specs.Prelude.{◌≡◌, ◌↔◌, ℕ, List, Option, Non
 ghost use Rattle.star_io.specs.Bytes.{AreBytes};
 ghost use Rattle.star_io.specs.RecordLists.{HasMoreThan};
 ghost use Rattle.star_io.specs.declared.record.TheConstants.{MAX_RECORDS};
+ghost use Rattle.report_frame.specs.declared.version.Version.{Version};
 ghost use Rattle.star_vectors.specs.Comparison.{first_differing};
 ghost use Rattle.star_vectors.specs.Vectors.{vectors};
 ghost use Rattle.command_words.specs.declared.command.Command.{Command};
@@ -25,13 +26,13 @@ pub fn check_refuses()
 /// `make` refuses exactly what is too much for a table, and else what has a bad place.
 #[tactic(auto, using(crate::proofs::MakeLemmas::too_many_means, crate::proofs::MakeLemmas::bad_means, crate::proofs::MakeLemmas::none_means))]
 pub fn make_refuses()
-    ensures too_many { (epoch : ℕ) (thresholds bytes : List ℕ) (given : Option (List ℕ)) →
-        (refusal_of (Make epoch thresholds given) bytes ≡ Some Status.TooMany) ↔ HasTooMuch bytes }
-    ensures bad { (epoch row column : ℕ) (thresholds bytes : List ℕ) (given : Option (List ℕ)) →
-        (refusal_of (Make epoch thresholds given) bytes ≡ Some (Status.BadTable row column))
-        ↔ HasBadCell thresholds bytes row column }
-    ensures good { (epoch : ℕ) (thresholds bytes : List ℕ) (given : Option (List ℕ)) →
-        (refusal_of (Make epoch thresholds given) bytes ≡ None) ↔ IsTableText thresholds bytes }
+    ensures too_many { (epoch : ℕ) (version : Version) (thresholds bytes : List ℕ) (given : Option (List ℕ)) →
+        (refusal_of (Make epoch version thresholds given) bytes ≡ Some Status.TooMany) ↔ HasTooMuch bytes }
+    ensures bad { (epoch row column : ℕ) (version : Version) (thresholds bytes : List ℕ) (given : Option (List ℕ)) →
+        (refusal_of (Make epoch version thresholds given) bytes ≡ Some (Status.BadTable row column))
+        ↔ HasBadCell version thresholds bytes row column }
+    ensures good { (epoch : ℕ) (version : Version) (thresholds bytes : List ℕ) (given : Option (List ℕ)) →
+        (refusal_of (Make epoch version thresholds given) bytes ≡ None) ↔ IsTableText version thresholds bytes }
 {}
 
 /// `selftest` refuses exactly where a vector differs, and names the first one.

@@ -157,9 +157,10 @@ fn answer_of<S: Source, C: Source>(
         Command::Check => check_output(alloc, input),
         Command::Make {
             epoch,
+            version,
             thresholds,
             seed,
-        } => make_output(alloc, epoch, &thresholds, seed, input, coins),
+        } => make_output(alloc, epoch, version, &thresholds, seed, input, coins),
         Command::SelfTest => self_test_output(alloc),
     }
 }

@@ -88,12 +88,18 @@ fn prints<R: Threads + Sync>(
 fn check_says_where_a_frame_goes_wrong(rt: HostRuntime) -> Result<(), Fail> {
     let alloc = rt.alloc();
     let frame = smallest_frame();
+    let mut second = smallest_frame();
+    second[2] = 2;
     let (shorter, _) = frame.split_at(138);
     let cases = [
         (Stream::new(alloc), "records=0 good=0 refused=0\n"),
         (
             Stream::new(alloc).record(139, &frame)?,
             "0 good level=0 epoch=1 k=2 box=1 body=1\nrecords=1 good=1 refused=0\n",
+        ),
+        (
+            Stream::new(alloc).record(139, &second)?,
+            "0 good version=2 level=0 epoch=1 k=2 box=1 body=1\nrecords=1 good=1 refused=0\n",
         ),
         (
             Stream::new(alloc).record(138, shorter)?,
@@ -128,8 +134,15 @@ fn check_goes_on_behind_a_long_record_and_stops_at_a_cut_one(rt: HostRuntime) ->
             "0 good level=0 epoch=1 k=2 box=1 body=1\n1 refused CutRecord 10\nrecords=2 good=1 refused=1\n",
         ),
         (
+            Stream::new(alloc)
+                .record(139, &frame)?
+                .record(5000, &[0; 5000])?
+                .record(139, &frame)?,
+            "0 good level=0 epoch=1 k=2 box=1 body=1\n1 refused Magic 0\n2 good level=0 epoch=1 k=2 box=1 body=1\nrecords=3 good=2 refused=1\n",
+        ),
+        (
             long.record(139, &frame)?,
-            "0 good level=0 epoch=1 k=2 box=1 body=1\n1 refused TooLong 4096\n2 good level=0 epoch=1 k=2 box=1 body=1\nrecords=3 good=2 refused=1\n",
+            "0 good level=0 epoch=1 k=2 box=1 body=1\n1 refused TooLong 8192\n2 good level=0 epoch=1 k=2 box=1 body=1\nrecords=3 good=2 refused=1\n",
         ),
         (
             Stream::new(alloc).record(139, &frame)?.bytes(b"abc")?,
@@ -199,7 +212,7 @@ fn selftest_prints_each_vector_and_reads_nothing(rt: HostRuntime) -> Result<(), 
 #[test]
 fn faulty_words_touch_nothing(rt: HostRuntime) -> Result<(), Fail> {
     let alloc = rt.alloc();
-    let cases: [&[&str]; 12] = [
+    let cases: [&[&str]; 13] = [
         &[],
         &["look"],
         &["check", "x"],
@@ -212,6 +225,15 @@ fn faulty_words_touch_nothing(rt: HostRuntime) -> Result<(), Fail> {
         &["make", "--epoch", "1", "--thresholds", "2,1"],
         &["make", "--epoch", "1", "--thresholds", "2,,2"],
         &["make", "--epoch", "1", "--thresholds", "2", "--seed", "00"],
+        &[
+            "make",
+            "--epoch",
+            "1",
+            "--thresholds",
+            "2",
+            "--version",
+            "3",
+        ],
     ];
     for words in cases {
         let mut input = MemorySource::new(vec![in alloc; 0; 4]?, Vec::new(alloc), Vec::new(alloc));
@@ -276,7 +298,7 @@ fn each_status_has_its_number_and_line(rt: HostRuntime) -> Result<(), Fail> {
         (
             Status::Usage,
             2,
-            "usage: star_tool check | make --epoch E --thresholds K,.. [--seed HEX] | selftest\n",
+            "usage: star_tool check | make --epoch E --thresholds K,.. [--seed HEX] [--version V] | selftest\n",
         ),
         (Status::ReadFault, 3, "read fault\n"),
         (Status::WriteFault, 4, "write fault\n"),

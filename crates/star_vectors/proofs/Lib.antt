@@ -1,4 +1,4 @@
-pub mod Filling
-pub mod Spelling
-pub mod Decoding
-pub mod Differing
+mod Filling
+mod Spelling
+mod Decoding
+mod Differing

@@ -3,15 +3,15 @@ use Rattle.std.specs.Str.Parse.{digits_value}
 use Rattle.std.proofs.lemmas.Iterator.Consumers.{YieldsList-at, YieldsList-end, YieldsList-turn}
 use Rattle.std.proofs.lemmas.Iterator.Splits.{YieldsList-from_str_split}
 use Rattle.std.proofs.lemmas.List.{length-map}
-use Rattle.report_frame.specs.declared.limits.TheConstants.{MIN_THRESHOLD, MAX_THRESHOLD}
+use Rattle.report_frame.specs.Versions.{max_layers, max_threshold}
+use Rattle.report_frame.specs.declared.limits.TheConstants.{MIN_THRESHOLD}
 use Rattle.command_words.specs.Numbers.{number_in}
 use Rattle.command_words.specs.Thresholds.{parts_of}
-use Rattle.command_words.specs.declared.thresholds.TheConstants.{MAX_LAYERS}
 use Rattle.command_words.proofs.ThresholdLemmas.{number_in-none, thresholds-bad, thresholds-many, thresholds-read}
 use Rattle.command_words.proofs.thresholds.thresholds_of.Goals as goal
 
-pub returns-then-as_slice-eq-MAX_LAYERS : goal.returns-then-as_slice-eq-MAX_LAYERS
-returns-then-as_slice-eq-MAX_LAYERS c =
+pub returns-then-as_slice-most : goal.returns-then-as_slice-most
+returns-then-as_slice-most c =
     let (within, is) = YieldsList-turn
     (YieldsList-at c.into_iter-part-iterator.ensures.into_iter_gives
     (YieldsList-from_str_split 44 c.args.text.now (lit< tt) c.split-part-items.ensures.text c.split-part-items.ensures.has_more c.split-part-items.ensures.pattern))
@@ -19,7 +19,7 @@ returns-then-as_slice-eq-MAX_LAYERS c =
     let read = ap length (c.as_slice.ensures.value ∙ c.loop-part.invariant.read)
     ∙ length-map (map (λ part. part.now) c.loop-part.yielded) (digits_value 10) ∙ length-map c.loop-part.yielded (λ part. part.now) in
     let inside : length c.loop-part.yielded < length (parts_of c.args.text.now) = within in
-    thresholds-many c.args.text.now (omega (arith, read, inside))
+    thresholds-many c.args.version c.args.text.now (omega (arith, read, inside))
 
 pub returns-in_err-threshold : goal.returns-in_err-threshold
 returns-in_err-threshold c =
@@ -27,10 +27,10 @@ returns-in_err-threshold c =
     (YieldsList-at c.into_iter-part-iterator.ensures.into_iter_gives
     (YieldsList-from_str_split 44 c.args.text.now (lit< tt) c.split-part-items.ensures.text c.split-part-items.ensures.has_more c.split-part-items.ensures.pattern))
     c.loop-part.yielded _ c.loop-part.yielded_by _ _ c.in-Some.part c.in-Some.is c.next.ensures.steps in
-    let none : number_in MIN_THRESHOLD MAX_THRESHOLD c.in-Some.part.now ≡ None =
-    ap₂ (λ (low high : ℕ). number_in low high c.in-Some.part.now) (sym c.from.ensures) (sym c.from-in-loop-part.ensures) ∙ sym c.in_err-threshold.ensures in
-    c.from_residual.ensures ∙ thresholds-bad c.args.text.now (length c.loop-part.yielded) c.in-Some.part.now within is
-    (number_in-none MIN_THRESHOLD MAX_THRESHOLD c.in-Some.part.now none)
+    let none : number_in MIN_THRESHOLD (max_threshold c.args.version) c.in-Some.part.now ≡ None =
+    ap₂ (λ (low high : ℕ). number_in low high c.in-Some.part.now) (sym c.from.ensures) (sym (c.from-in-loop-part.ensures ∙ c.max_threshold-high.ensures)) ∙ sym c.in_err-threshold.ensures in
+    c.from_residual.ensures ∙ thresholds-bad c.args.version c.args.text.now (length c.loop-part.yielded) c.in-Some.part.now within is
+    (number_in-none MIN_THRESHOLD (max_threshold c.args.version) c.in-Some.part.now none)
 
 pub returns : goal.returns
 returns c =
@@ -38,5 +38,5 @@ returns c =
     (YieldsList-at c.into_iter-part-iterator.ensures.into_iter_gives
     (YieldsList-from_str_split 44 c.args.text.now (lit< tt) c.split-part-items.ensures.text c.split-part-items.ensures.has_more c.split-part-items.ensures.pattern))
     c.loop-part.yielded _ c.loop-part.yielded_by _ _ c.in-None.is c.next.ensures.steps in
-    let few : length (map (λ part. part.now) c.loop-part.yielded) ≤ MAX_LAYERS = omega (arith, length-map c.loop-part.yielded (λ part. part.now)) in
-    thresholds-read c.args.text.now (map (λ part. part.now) c.loop-part.yielded) c.loop-part.thresholds all few c.loop-part.invariant.all c.loop-part.invariant.read
+    let few : length (map (λ part. part.now) c.loop-part.yielded) ≤ max_layers c.args.version = omega (arith, length-map c.loop-part.yielded (λ part. part.now)) in
+    thresholds-read c.args.version c.args.text.now (map (λ part. part.now) c.loop-part.yielded) c.loop-part.thresholds all few c.loop-part.invariant.all c.loop-part.invariant.read

@@ -1,5 +1,6 @@
 use Rattle.star_io.specs.Records.{AreRecords}
-use Rattle.nest_client.specs.Stream.{whole, first_of}
+use Rattle.star_io.specs.RecordLists.{whole}
+use Rattle.nest_client.specs.Stream.{first_of}
 use Rattle.nest_client.specs.Generator.{drawn_frame}
 use Rattle.nest_client.proofs.generator.gen_text.Given as goal
 

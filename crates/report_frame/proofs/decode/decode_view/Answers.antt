@@ -1,14 +1,16 @@
-use Rattle.std.proofs.Common.{arith, rules}
+use Rattle.std.proofs.Common.{sym, ◌∙◌, arith, rules}
 use Rattle.star_io.proofs.ByteLists.{AreBytes-from_fits}
 use Rattle.report_frame.specs.Reading.{decoded}
+use Rattle.report_frame.proofs.Frames.{decoded-long}
 use Rattle.report_frame.proofs.FrameLaws.{frame_length, one_report, no_fault_of_frame}
 use Rattle.report_frame.proofs.Views.{frame_of_parts, views_frame, only_given, fault_given, one_given}
 use Rattle.report_frame.proofs.decode.decode_view.Goals as goal
 
-pub returns-then-bytes-gt-MAX_FRAME-clause-decoded :
-    goal.returns-then-bytes-gt-MAX_FRAME-clause-decoded
-unfolding decoded
-returns-then-bytes-gt-MAX_FRAME-clause-decoded c = search rules
+pub returns-in-Some-clause-decoded : goal.returns-in-Some-clause-decoded
+returns-in-Some-clause-decoded c = decoded-long _ _ (sym c.passed_limit.ensures ∙ c.in-Some.is)
+
+pub returns-in-Some-clause-one : goal.returns-in-Some-clause-one
+returns-in-Some-clause-one c = one_given _ _ (returns-in-Some-clause-decoded c)
 
 pub returns-in_err-parts-clause-decoded : goal.returns-in_err-parts-clause-decoded
 unfolding decoded
@@ -29,17 +31,17 @@ returns-in_err-parts-clause-one c = one_given _ _ (returns-in_err-parts-clause-d
 
 pub overflow_sub-bytes : goal.overflow_sub-bytes
 overflow_sub-bytes c =
-    let of_parts = frame_of_parts c.args.bytes.now c.in_ok-parts.parts (AreBytes-from_fits _ c.type_inv.bytes) c.if-bytes-gt-MAX_FRAME.false c.in_ok-parts.ensures in
+    let of_parts = frame_of_parts c.args.bytes.now c.in_ok-parts.parts (AreBytes-from_fits _ c.type_inv.bytes) (sym c.passed_limit.ensures ∙ c.in_default.is) c.in_ok-parts.ensures in
     let size = frame_length _ _ of_parts in
     omega arith
 
 pub invariant_of-result : goal.invariant_of-result
 invariant_of-result c =
-    let of_parts = frame_of_parts c.args.bytes.now c.in_ok-parts.parts (AreBytes-from_fits _ c.type_inv.bytes) c.if-bytes-gt-MAX_FRAME.false c.in_ok-parts.ensures in
+    let of_parts = frame_of_parts c.args.bytes.now c.in_ok-parts.parts (AreBytes-from_fits _ c.type_inv.bytes) (sym c.passed_limit.ensures ∙ c.in_default.is) c.in_ok-parts.ensures in
     record { is_frame = views_frame c.args.bytes.now c.split_at.result.0.now c.in_ok-parts.parts of_parts c.split_at.ensures.front }
 
 pub returns-clause-found : goal.returns-clause-found
-returns-clause-found c = frame_of_parts c.args.bytes.now c.in_ok-parts.parts (AreBytes-from_fits _ c.type_inv.bytes) c.if-bytes-gt-MAX_FRAME.false c.in_ok-parts.ensures
+returns-clause-found c = frame_of_parts c.args.bytes.now c.in_ok-parts.parts (AreBytes-from_fits _ c.type_inv.bytes) (sym c.passed_limit.ensures ∙ c.in_default.is) c.in_ok-parts.ensures
 
 pub returns-clause-only : goal.returns-clause-only
 returns-clause-only c r of_r = one_report _ _ _ (returns-clause-found c) of_r

@@ -1,4 +1,4 @@
-use Rattle.std.proofs.Common.{◌≡◌, ◌++◌, List, ℕ, ap, sym, subst, ◌∙◌, arith}
+use Rattle.std.proofs.Common.{◌≡◌, ◌++◌, List, ℕ, ap, sym, subst, ◌∙◌}
 use Rattle.report_frame.specs.Frame.{IsFrame, frame, entries, sealed_part}
 use Rattle.report_frame.specs.Format.{spelling}
 use Rattle.report_frame.specs.Report.{fields_of_report}

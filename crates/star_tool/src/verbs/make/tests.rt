@@ -117,6 +117,52 @@ fn a_bad_table_is_refused_before_any_coin_is_taken(rt: HostRuntime) -> Result<()
     Ok(())
 }
 
+// What the last cell of a row holds goes into the report of version 2, and it may be empty.
+#[test]
+fn the_last_cell_is_extra_in_version_2(rt: HostRuntime) -> Result<(), Fail> {
+    let alloc = rt.alloc();
+    let words = [
+        "make",
+        "--epoch",
+        "1",
+        "--thresholds",
+        "2",
+        "--version",
+        "2",
+        SEED,
+    ];
+    let front =
+        b"\x00\x00\x00\x90\x53\x54\x02\x00\x00\x00\x00\x01\x00\x02\x06\xb8\xe0\xad\xa0\xf1\x3d\x91";
+    let mut trial = Trial::new(alloc, b"red,abc\n", 0, &[])?;
+    assert_eq!(rt; trial.run(&rt, alloc, &words)?, Status::Done);
+    let told = trial.out.told();
+    assert_eq!(rt; told.len(), 4 + 144);
+    assert_eq!(rt; &told[..22], front.as_slice());
+    assert_eq!(rt;
+        &told[110..112],
+        b"\0\x04".as_slice(),
+        "the length of the body"
+    );
+
+    let mut trial = Trial::new(alloc, b"red,", 0, &[])?;
+    assert_eq!(rt; trial.run(&rt, alloc, &words)?, Status::Done);
+    assert_eq!(rt; trial.out.told().len(), 4 + 141);
+
+    let mut long = Vec::from_slice(alloc, b"red,")?;
+    long.extend_from_slice(&[b'x'; 256])?;
+    for (table, column) in [
+        (b"red".as_slice(), 1),
+        (b"red,a,b".as_slice(), 2),
+        (long.as_slice(), 1),
+    ] {
+        let mut trial = Trial::new(alloc, table, 0, &[])?;
+        let status = trial.run(&rt, alloc, &words)?;
+        assert_eq!(rt; status, Status::BadTable { row: 0, column });
+        assert_eq!(rt; trial.out.told().len(), 0);
+    }
+    Ok(())
+}
+
 #[test]
 fn a_failed_read_of_the_table_leaves_the_coins_alone(rt: HostRuntime) -> Result<(), Fail> {
     let alloc = rt.alloc();
