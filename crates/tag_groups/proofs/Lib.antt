@@ -1,0 +1,9 @@
+pub mod Keys
+pub mod IndexLemmas
+pub mod Grown
+pub mod Left
+pub mod Once
+pub mod PointSteps
+pub mod GroupLaws
+pub mod LeftLaws
+pub mod AllLeft

@@ -1,0 +1,22 @@
+use Rattle.std.proofs.Common.{◌≡◌, ◌∙◌, sym, ap, not, true, length, arith, is_ok}
+use Rattle.std.specs.Prelude.{if◌then◌else◌}
+use Rattle.tag_groups.specs.Index.{joined}
+use Rattle.tag_groups.proofs.Grown.{groups_grown, few_groups}
+use Rattle.tag_groups.proofs.grouper.Grouper.add.Goals as goal
+
+pub join-joined-requires-clause-few : goal.join-joined-requires-clause-few
+join-joined-requires-clause-few c =
+    omega (arith, ap length c.self.invariant.groups_are, few_groups c.self.inside.rows.items, ap length c.self.view_is, c.requires)
+
+pub invariant_of-self-else-is_err : goal.invariant_of-self-else-is_err
+invariant_of-self-else-is_err c =
+    let rows = c.self.inside.rows.items in
+    let good : is_ok c.join-joined.result ≡ true = c.is_err.ensures.negation ∙ ap not c.if-is_err.false in
+    let place : c.len-member.result ≡ length rows = c.len-member.ensures ∙ c.self.inside.rows.ok.0 in
+    record {
+      groups_are = c.join-joined.ensures.groups
+          ∙ ap (λ b. if b then joined c.key_of-key.result c.len-member.result c.self.inside.groups.items else c.self.inside.groups.items) good
+          ∙ (λ i. joined (c.key_of-key.ensures.key i) (place i) (c.self.invariant.groups_are i))
+          ∙ sym (groups_grown rows c.push.new.self.items c.args.row c.in_ok-push.ensures.items);
+      finds = c.join-joined.ensures.finds;
+    }

@@ -1,0 +1,148 @@
+ghost use Rattle.std.specs.Prelude.{◌≡◌, ◌<◌, ◌-◌, ◌^◌, [], ◌∷◌, ◌++◌, length, is_ok, if◌then◌else◌, OnOk, OnErr, Some};
+ghost use Rattle.std.specs.BTreeMap.{Updates, IsUnchanged};
+ghost use Rattle.tag_groups.specs.Keys.{HasThreshold};
+ghost use Rattle.tag_groups.specs.Grouped.{groups_of};
+ghost use Rattle.tag_groups.specs.Index.{Finds, key_cmp, joined, new_group};
+
+use crate::group::{Group, Groups};
+use crate::key::{Key, key_of};
+use crate::listed::Listed;
+use crate::row::{Row, Rows};
+use report_frame::Head;
+use star_io::NoMemory;
+use std::alloc::Global;
+use std::collections::BTreeMap;
+use std::marker::Model;
+
+/// Rows that are grouped as they come. An ordered map finds the group of a row, so no choice of
+/// heads makes it slow.
+#[derive(Drop)]
+pub struct Grouper {
+    alloc: Global,
+    rows: Vec<Row>,
+    groups: Vec<Group>,
+    places: BTreeMap<Key, u32>,
+}
+
+impl Model for Grouper {
+    ghost use Rattle.std.specs.Prelude.{List};
+    ghost use Rattle.tag_groups.specs.RowView.{RowView};
+
+    ghost Value = { List RowView };
+
+    ghost use Rattle.tag_groups.specs.Indexed.{IsIndexed};
+
+    ghost view = { λ g. g.rows.items };
+
+    ghost invariant = { λ g. IsIndexed g.rows.items g.groups.items g.places };
+}
+
+/// Rows and their groups.
+#[derive(Drop)]
+pub struct Grouped {
+    pub rows: Rows,
+    pub groups: Groups,
+}
+
+impl Grouper {
+    /// No rows. It takes no memory.
+    pub fn new(alloc: Global) -> Grouper
+        ensures { result ≡ [] }
+    {
+        Grouper {
+            alloc,
+            rows: Vec::new(alloc),
+            groups: Vec::new(alloc),
+            places: BTreeMap::new(alloc),
+        }
+    }
+
+    /// Puts the row last. After `NoMemory` the rows are as before, and the row is dropped.
+    pub fn add(&mut self, row: Row) -> Result<(), NoMemory>
+        requires { length self.old < 2 ^ 32 - 1 }
+        ensures added { OnOk result (self.new ≡ self.old ++ row ∷ []) }
+        ensures kept { OnErr result (self.new ≡ self.old) }
+    {
+        let key = key_of(&row);
+        let member = self.rows.len() as u32;
+        self.rows.push(row)?;
+        let joined = join(self.alloc, &mut self.groups, &mut self.places, key, member);
+        if joined.is_err() {
+            self.rows.pop();
+        }
+        joined
+    }
+
+    /// The rows and their groups. It takes no memory.
+    pub fn finish(self) -> Grouped
+        ensures rows { result.rows ≡ self }
+        ensures groups { result.groups ≡ groups_of self }
+    {
+        Grouped {
+            rows: Listed::from_vec(self.rows),
+            groups: Listed::from_vec(self.groups),
+        }
+    }
+}
+
+// Puts the row of this place into the group of its key. After `NoMemory` all is as before.
+fn join(
+    alloc: Global,
+    groups: &mut Vec<Group>,
+    places: &mut BTreeMap<Key, u32>,
+    key: Key,
+    member: u32,
+) -> Result<(), NoMemory>
+    requires finds { Finds places.old groups.old.items }
+    requires few { length groups.old.items < 2 ^ 32 }
+    requires threshold { HasThreshold key.head }
+    ensures groups { groups.new.items ≡ (if is_ok result then joined key member groups.old.items else groups.old.items) }
+    ensures finds { Finds places.new groups.new.items }
+{
+    match places.get(&key).copied() {
+        Some(place) => groups[place as usize].add_member(member),
+        None => begin(alloc, groups, places, key, member),
+    }
+}
+
+// Begins a group of this key with the row of this place. After `NoMemory` all is as before.
+fn begin(
+    alloc: Global,
+    groups: &mut Vec<Group>,
+    places: &mut BTreeMap<Key, u32>,
+    key: Key,
+    member: u32,
+) -> Result<(), NoMemory>
+    requires few { length groups.old.items < 2 ^ 32 }
+    requires threshold { HasThreshold key.head }
+    ensures groups { groups.new.items ≡ (if is_ok result then groups.old.items ++ new_group key member ∷ [] else groups.old.items) }
+    ensures places { OnOk result (Updates key_cmp places.old places.new key (Some (length groups.old.items))) }
+    ensures kept { OnErr result (IsUnchanged places.old places.new) }
+{
+    let mut members = Vec::new(alloc);
+    members.push(member)?;
+    let place = groups.len() as u32;
+    groups.push(Group {
+        parent: key.parent,
+        head: copy_head(&key.head),
+        members,
+    })?;
+    if places.insert(key, place).is_err() {
+        groups.pop();
+        return Err(NoMemory);
+    }
+    Ok(())
+}
+
+// The same head once more.
+fn copy_head(head: &Head) -> Head
+    ensures { result ≡ head.now }
+{
+    Head {
+        version: head.version,
+        k: head.k,
+        tag: head.tag,
+        check: head.check,
+        boxed: head.boxed.copy(),
+    }
+}

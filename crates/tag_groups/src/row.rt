@@ -1,0 +1,87 @@
+ghost use Rattle.std.specs.Prelude.{◌≡◌, ◌≤◌, ◌+◌, length, Ok, IfOk, IsOk, IfErr};
+ghost use Rattle.report_frame.specs.declared.limits.TheConstants.{FIXED_BYTES};
+ghost use Rattle.report_frame.specs.Frame.{Fields, IsFrame, FaultAt};
+ghost use Rattle.report_frame.specs.Laws.{InRange};
+ghost use Rattle.report_frame.specs.Reading.{decoded};
+ghost use Rattle.report_frame.specs.Versions.{max_frame};
+ghost use Rattle.report_frame.specs.View.{fields_of};
+ghost use Rattle.tag_groups.specs.Rows.{row_from};
+
+use crate::listed::Listed;
+use report_frame::{Fault, FrameView, decode_view};
+use star_io::Bytes;
+use std::marker::Model;
+
+/// A report of a level: the number of its record, the number of the group of the level before that
+/// it came out of, and its frame.
+#[derive(Drop)]
+pub struct Row {
+    index: u32,
+    parent: u32,
+    frame: Bytes,
+}
+
+impl Model for Row {
+    ghost use Rattle.tag_groups.specs.RowView.{RowView, report_in, IsRead};
+
+    ghost Value = { RowView };
+
+    ghost view = { λ r. record { index = r.index; parent = r.parent; report = report_in r.frame } };
+
+    ghost invariant = { λ r. IsRead r.frame };
+}
+
+/// Bytes that are no frame, and what is wrong with them.
+#[derive(Drop)]
+pub struct BadRow {
+    pub frame: Bytes,
+    pub fault: Fault,
+}
+
+impl Row {
+    /// A row of these bytes where they are a frame. Else they are handed back with their fault.
+    pub fn new(index: u32, parent: u32, frame: Bytes) -> Result<Row, BadRow>
+        ensures row { result ≡ row_from index parent frame }
+        // Ok comes exactly where the bytes are a frame, and the row has its report.
+        ensures frame { IfOk result (λ row. IsFrame row.report frame) }
+        ensures decoded { IfOk result (λ row. decoded frame ≡ Ok row.report) }
+        ensures only { (r : Fields) → IsFrame r frame → IsOk result }
+        // Else it is their one fault.
+        ensures fault { IfErr result (λ bad. FaultAt frame bad.fault.kind bad.fault.at) }
+    {
+        match decode_view(frame.as_slice()).err() {
+            Some(fault) => Err(BadRow { frame, fault }),
+            None => Ok(Row {
+                index,
+                parent,
+                frame,
+            }),
+        }
+    }
+
+    /// The number of its record.
+    pub fn index(&self) -> u32
+        ensures { result ≡ self.now.index }
+    {
+        self.index
+    }
+
+    /// The number of the group of the level before that it came out of, and 0 at level 0.
+    pub fn parent(&self) -> u32
+        ensures { result ≡ self.now.parent }
+    {
+        self.parent
+    }
+
+    /// The fields of its frame. They are in their ranges.
+    pub fn view(&self) -> FrameView<'_>
+        ensures report { fields_of result ≡ self.now.report }
+        ensures range { InRange self.now.report }
+        ensures short { FIXED_BYTES + length self.now.report.boxed + length self.now.report.body ≤ max_frame self.now.report.version }
+    {
+        decode_view(self.frame.as_slice()).unwrap()
+    }
+}
+
+/// A list of rows.
+pub type Rows = Listed<Row>;
