@@ -16,3 +16,6 @@ pub use groups::group_rows;
 pub use listed::Listed;
 pub use points::{Points, points_left};
 pub use row::{BadRow, Row, Rows};
+
+#[cfg(test)]
+mod tests;
