@@ -1,112 +1,158 @@
 #!/usr/bin/env bash
-# Runs the built program on faulty words, tables, inputs and outputs, and on good ones, and compares its exit status, its output and its line on
-# standard error with what docs/FORMATS.md states.
+# Runs the built program on faulty words, tables, inputs and outputs, and on good ones, and compares its exit status, each byte of its output and
+# its line on standard error with what docs/FORMATS.md states.
+#
+# usage: tests/faulty_input.sh [PROGRAM]
 cd "$(dirname "$0")/.." || exit 1
-program=crates/star_tool/out/star_tool
+program=$(realpath "${1:-crates/star_tool/out/star_tool}")
 scratch=$(mktemp -d)
 trap 'rm -rf "$scratch"' EXIT
 passed=0
 failed=0
 
-# wanted NAME STATUS OUTPUT ERROR: compares the last run, whose output and errors lie in the scratch folder
+# run WORDS..: runs the program, and keeps its exit status, its output and its errors in the scratch folder
+run() {
+    "$program" "$@" >"$scratch/out" 2>"$scratch/err"
+    echo $? >"$scratch/status"
+}
+
+# told WORDS..: the same, with the output where the caller sends it
+told() {
+    : >"$scratch/out"
+    "$program" "$@" 2>"$scratch/err"
+    echo $? >"$scratch/status"
+}
+
+# lines TEXT: the text with its last newline, and nothing for no text
+lines() {
+    [ -z "$1" ] || printf '%s\n' "$1"
+}
+
+# wanted NAME STATUS OUTPUT ERROR: compares the last run with a status, and with lines of output and of errors, byte for byte
 wanted() {
-    local status=$?
-    if [ "$status" -eq "$2" ] && [ "$(cat "$scratch/out")" = "$3" ] && [ "$(cat "$scratch/err")" = "$4" ]; then
+    if [ "$(cat "$scratch/status")" = "$2" ] && lines "$3" | cmp -s - "$scratch/out" && lines "$4" | cmp -s - "$scratch/err"; then
         passed=$((passed + 1))
     else
         failed=$((failed + 1))
-        echo "$1: status $status, output '$(head -c 300 "$scratch/out")', error '$(cat "$scratch/err")'"
+        echo "$1: status $(cat "$scratch/status"), output '$(head -c 300 "$scratch/out" | tr -d '\0')', error '$(tr -d '\0' <"$scratch/err")'"
     fi
+    echo none >"$scratch/status"
 }
-
-usage='usage: star_tool check | make --epoch E --thresholds K,.. [--seed HEX] | selftest'
-none='records=0 good=0 refused=0'
-
-"$program" </dev/null >"$scratch/out" 2>"$scratch/err"
-wanted "no words" 2 "" "$usage"
-"$program" look </dev/null >"$scratch/out" 2>"$scratch/err"
-wanted "an unknown verb" 2 "" "$usage"
-"$program" check x </dev/null >"$scratch/out" 2>"$scratch/err"
-wanted "a stray word" 2 "" "$usage"
-"$program" $'\xff' </dev/null >"$scratch/out" 2>"$scratch/err"
-wanted "a verb that isn't UTF-8" 2 "" "$usage"
-"$program" check $'a\xc3' </dev/null >"$scratch/out" 2>"$scratch/err"
-wanted "a stray word that isn't UTF-8" 2 "" "$usage"
-"$program" check </dev/null >"$scratch/out" 2>"$scratch/err"
-wanted "an empty stream" 0 "$none" ""
-"$program" check </ >"$scratch/out" 2>"$scratch/err"
-wanted "a folder as standard input" 3 "" "read fault"
-"$program" check <&- >"$scratch/out" 2>"$scratch/err"
-wanted "a closed standard input" 3 "" "read fault"
-: >"$scratch/out"
-"$program" check </dev/null >/dev/full 2>"$scratch/err"
-wanted "a full disk as standard output" 4 "" "write fault"
-: >"$scratch/out"
-"$program" check </dev/null 2>"$scratch/err" >&-
-wanted "a closed standard output" 4 "" "write fault"
-head -c 262144 /dev/zero | "$program" check >"$scratch/out" 2>"$scratch/err"
-wanted "65,536 records" 0 "$(seq -f '%.0f refused Truncated 0' 0 65535; echo 'records=65536 good=0 refused=65536')" ""
-head -c 262145 /dev/zero | "$program" check >"$scratch/out" 2>"$scratch/err"
-wanted "a byte more" 5 "" "too many"
-: >"$scratch/err"
-yes abcdefghijklmnopqrstuvwxyz | head -c 5000000 | "$program" check >"$scratch/out" 2>"$scratch/err"
-wanted "text" 0 "$(printf '0 refused CutRecord 4999996\nrecords=1 good=0 refused=1')" ""
-
-"$program" selftest <&- >"$scratch/out" 2>"$scratch/err"
-wanted "the self test" 0 "$(printf 'vector %s ok\n' 1 2 3 4 5 6 7; echo 'vectors=7 ok=7')" ""
-"$program" selftest x </dev/null >"$scratch/out" 2>"$scratch/err"
-wanted "a word after selftest" 2 "" "$usage"
 
 # hashed: puts the SHA-256 of the last output in its place
 hashed() {
-    local status=$?
     sha256sum <"$scratch/out" | cut -c1-64 >"$scratch/hash"
     mv "$scratch/hash" "$scratch/out"
-    return "$status"
 }
 
+# only_last_line: keeps the last line of the last output
+only_last_line() {
+    tail -n 1 "$scratch/out" >"$scratch/last"
+    mv "$scratch/last" "$scratch/out"
+}
+
+# times COUNT TEXT: the text so many times
+times() {
+    printf "%.0s$2" $(seq "$1")
+}
+
+usage='usage: star_tool check | make --epoch E --thresholds K,.. [--seed HEX] [--version V] | selftest'
+none='records=0 good=0 refused=0'
 seed=--seed=0000000000000000000000000000000000000000000000000000000000000000
 pair="make --epoch 1 --thresholds 2,2"
+second="make --epoch 1 --thresholds 2 --version 2"
 
-# The hashes are those of streams that an implementation in Python makes.
-"$program" make --epoch 7 --thresholds=3,2 "$seed" <examples/cities.csv >"$scratch/out" 2>"$scratch/err"
-hashed
-wanted "the example" 0 6cd5242efee065547705b424121933d28ff74a3f331a9fa837124dd096b4b639 ""
-printf '"x,y","say ""hi"""\r\n\r\n"two\nlines", b \r\n\xff\x01,%s' "$(printf 'z%.0s' {1..64})" |
-    "$program" $pair "$seed" >"$scratch/out" 2>"$scratch/err"
-hashed
-wanted "quoted cells, a blank line, bytes that aren't UTF-8, a cell of 64 bytes and a last line without its end" 0 f911fb770eb9d8418da2aa8659b0f71729614194e7b2e91753541cd5565acb59 ""
-: >"$scratch/out"
-"$program" make --epoch 1 --thresholds 2 </dev/null >/dev/full 2>"$scratch/err"
-wanted "a table with no row, where nothing can be written" 0 "" ""
-echo red | "$program" make --epoch 1 --thresholds 2 2>"$scratch/err" >/dev/full
-wanted "a row, where nothing can be written" 4 "" "write fault"
-echo red | "$program" make --epoch 1 --thresholds 2 >"$scratch/first"
-echo red | "$program" make --epoch 1 --thresholds 2 >"$scratch/second"
-! cmp -s "$scratch/first" "$scratch/second" && "$program" check <"$scratch/first" >"$scratch/out" 2>"$scratch/err"
-wanted "two runs without a seed differ" 0 "$(printf '0 good level=0 epoch=1 k=2 box=3 body=1\nrecords=1 good=1 refused=0')" ""
-"$program" make --epoch 1 --thresholds 2 <&- >"$scratch/out" 2>"$scratch/err"
-wanted "a closed standard input of a table" 3 "" "read fault"
-printf 'a,b\nc\n' | "$program" $pair >"$scratch/out" 2>"$scratch/err"
-wanted "a missing cell" 7 "" "bad table: row 1 column 1"
-printf 'a,b,c\n' | "$program" $pair >"$scratch/out" 2>"$scratch/err"
-wanted "a cell too many" 7 "" "bad table: row 0 column 2"
-printf 'a,%s\n' "$(printf 'z%.0s' {1..65})" | "$program" $pair >"$scratch/out" 2>"$scratch/err"
-wanted "a cell of 65 bytes" 7 "" "bad table: row 0 column 1"
-yes a | head -n 65537 | "$program" $pair >"$scratch/out" 2>"$scratch/err"
-wanted "a row too many, of which each is bad" 5 "" "too many"
-yes a,b | head -n 65536 | "$program" $pair 2>"$scratch/err" | "$program" check | tail -n 1 >"$scratch/out"
-wanted "65,536 rows" 0 "records=65536 good=65536 refused=0" ""
-head -c 134217728 /dev/zero | "$program" $pair >"$scratch/out" 2>"$scratch/err"
-wanted "as many bytes as a table may have" 7 "" "bad table: row 0 column 0"
-head -c 134217729 /dev/zero | "$program" $pair >"$scratch/out" 2>"$scratch/err"
-wanted "a byte more than a table may have" 5 "" "too many"
-for words in "make" "make --epoch 1" "make --thresholds 2" "$pair --epoch 1" "$pair --seed 00" "$pair --" "$pair x" "$pair -h" \
+# Words that are no command
+run </dev/null
+wanted "no words" 2 "" "$usage"
+run $'\xff' </dev/null
+wanted "a verb that isn't UTF-8" 2 "" "$usage"
+run check $'a\xc3' </dev/null
+wanted "a stray word that isn't UTF-8" 2 "" "$usage"
+for words in "look" "check x" "selftest x" "make" "make --epoch 1" "make --thresholds 2" "$pair --epoch 1" "$pair --seed 00" "$pair --" "$pair x" "$pair -h" \
     "$pair --help" "make --epoch 4294967296 --thresholds 2" "make --epoch +1 --thresholds 2" "make --epoch 1 --thresholds 2,1" \
-    "make --epoch 1 --thresholds 2,,2" "make --epoch 1 --thresholds 2,2,2,2,2,2,2,2,2" "make --epoch --thresholds 2" "--epoch 1 make"; do
-    "$program" $words </dev/null >"$scratch/out" 2>"$scratch/err"
+    "make --epoch 1 --thresholds 2,,2" "make --epoch 1 --thresholds 513" "make --epoch 1 --thresholds $(times 8 2,)2" \
+    "make --epoch 1 --thresholds 4097 --version 2" "make --epoch 1 --version 2 --thresholds $(times 16 2,)2" \
+    "$pair --version 3" "$pair --version 01" "$pair --version" "make --epoch --thresholds 2" "--epoch 1 make"; do
+    run $words </dev/null
     wanted "$words" 2 "" "$usage"
 done
+
+# check
+run check </dev/null
+wanted "an empty stream" 0 "$none" ""
+run check <examples/reports.stream
+wanted "the example" 0 "$(cat examples/reports.checked)" ""
+run check </
+wanted "a folder as standard input" 3 "" "read fault"
+run check <&-
+wanted "a closed standard input" 3 "" "read fault"
+told check </dev/null >/dev/full
+wanted "a full disk as standard output" 4 "" "write fault"
+told check </dev/null >&-
+wanted "a closed standard output" 4 "" "write fault"
+head -c 524288 /dev/zero | run check
+wanted "131,072 records" 0 "$(seq -f '%.0f refused Truncated 0' 0 131071; echo 'records=131072 good=0 refused=131072')" ""
+head -c 524289 /dev/zero | run check
+wanted "a byte more" 5 "" "too many"
+yes abcdefghijklmnopqrstuvwxyz | head -c 5000000 | run check
+wanted "text" 0 "$(printf '0 refused CutRecord 4999996\nrecords=1 good=0 refused=1')" ""
+
+# selftest
+run selftest <&-
+wanted "the self test" 0 "$(printf 'vector %s ok\n' 1 2 3 4 5 6 7; echo 'vectors=7 ok=7')" ""
+
+# make. The hashes are those of streams that an implementation in Python makes.
+run make --epoch 7 --thresholds=3,2 "$seed" <examples/cities.csv
+hashed
+wanted "the example of a table" 0 6cd5242efee065547705b424121933d28ff74a3f331a9fa837124dd096b4b639 ""
+printf '"x,y","say ""hi"""\r\n\r\n"two\nlines", b \r\n\xff\x01,%s' "$(times 64 z)" | run $pair "$seed"
+hashed
+wanted "quoted cells, a blank line, bytes that aren't UTF-8, a cell of 64 bytes and a last line without its end" 0 f911fb770eb9d8418da2aa8659b0f71729614194e7b2e91753541cd5565acb59 ""
+printf 'red,%s\n' "$(times 255 e)" | run $second "$seed"
+hashed
+wanted "255 extra bytes" 0 14986fc454baa4ff9b2820b0bc5fae26b2e67c8e0dd57c8eed055c399f5b3d8a ""
+told make --epoch 1 --thresholds 2 </dev/null >/dev/full
+wanted "a table with no row, where nothing can be written" 0 "" ""
+echo red | told make --epoch 1 --thresholds 2 >/dev/full
+wanted "a row, where nothing can be written" 4 "" "write fault"
+echo red | run make --epoch 1 --thresholds 2
+wanted_status=$(cat "$scratch/status")
+cp "$scratch/out" "$scratch/first"
+echo red | run make --epoch 1 --thresholds 2
+cmp -s "$scratch/first" "$scratch/out" && echo same >"$scratch/status"
+[ "$wanted_status" = 0 ] || echo "$wanted_status" >"$scratch/status"
+: >"$scratch/out"
+wanted "two runs without a seed differ" 0 "" ""
+run check <"$scratch/first"
+wanted "a report without a seed" 0 "$(printf '0 good level=0 epoch=1 k=2 box=3 body=1\nrecords=1 good=1 refused=0')" ""
+run make --epoch 1 --thresholds 2 <&-
+wanted "a closed standard input of a table" 3 "" "read fault"
+printf 'a,b\nc\n' | run $pair
+wanted "a missing cell" 7 "" "bad table: row 1 column 1"
+printf 'a,b,c\n' | run $pair
+wanted "a cell too many" 7 "" "bad table: row 0 column 2"
+printf 'a,%s\n' "$(times 65 z)" | run $pair
+wanted "a cell of 65 bytes" 7 "" "bad table: row 0 column 1"
+printf 'red\n' | run $second
+wanted "no extra cell" 7 "" "bad table: row 0 column 1"
+printf 'red,a,b\n' | run $second
+wanted "a cell behind the extra one" 7 "" "bad table: row 0 column 2"
+printf 'red,%s\n' "$(times 256 z)" | run $second
+wanted "256 extra bytes" 7 "" "bad table: row 0 column 1"
+yes a | head -n 65537 | run $pair
+wanted "a row too many, of which each is bad" 5 "" "too many"
+yes a,b | head -n 65536 | run $pair
+cp "$scratch/out" "$scratch/stream"
+: >"$scratch/out"
+wanted "65,536 rows" 0 "" ""
+run check <"$scratch/stream"
+only_last_line
+wanted "the reports of 65,536 rows" 0 "records=65536 good=65536 refused=0" ""
+head -c 134217728 /dev/zero | run $pair
+wanted "as many bytes as a table may have" 7 "" "bad table: row 0 column 0"
+head -c 134217729 /dev/zero | run $pair
+wanted "a byte more than a table may have" 5 "" "too many"
 
 echo "$passed passed, $failed failed"
 [ "$failed" -eq 0 ]
