@@ -1,6 +1,6 @@
 mod Between
 mod LeftRecords
-pub mod Cells
+mod Cells
 pub mod Places
 mod Outcomes
-mod BadPlaceLaws
+pub mod BadPlaceLaws

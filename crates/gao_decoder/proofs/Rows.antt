@@ -2,11 +2,10 @@
 use Rattle.std.proofs.Common.{ℕ, ◌≡◌, ◌<◌, ◌∙◌, sym, ap, List, length, get_or}
 use Rattle.field61.specs.declared.TheConstants.{MODULUS}
 use Rattle.field61.specs.Field.{field_sum, field_product, field_negative, field_difference}
-use Rattle.field61.proofs.FieldLaws.{ring, product_below, product_commutes, sum_negative, sum_zero, zero_sum, zero_product, product_zero, one_product, difference_self, modulus_positive}
-use Rattle.poly61.specs.Poly.{value, IsZero, HasDegreeBelow}
+use Rattle.field61.proofs.FieldLaws.{ring, product_below, product_commutes, sum_negative, sum_zero, zero_sum, zero_product, product_zero, one_product, difference_self}
+use Rattle.poly61.specs.Poly.{value}
 use Rattle.poly61.proofs.Elements.{minus_is_zero, zero_sum_zero}
 use Rattle.poly61.proofs.Lists.{value-below}
-use Rattle.poly61.proofs.Values.{value-one, value-zero}
 use Rattle.gao_decoder.specs.Sequence.{IsTied}
 use Rattle.gao_decoder.specs.Halving.{row_at, TakesTo, IsPivoted, IsSumOfProducts}
 

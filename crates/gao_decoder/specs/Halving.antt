@@ -1,5 +1,5 @@
 -- Rows of polynomials that act on pairs of numbers.
-use Rattle.std.specs.Prelude.{ℕ, ◌+◌, ◌≤◌, ◌<◌, ◌≡◌, List, length, slice_index}
+use Rattle.std.specs.Prelude.{ℕ, ◌≡◌, List}
 use Rattle.field61.specs.Field.{field_sum, field_product, field_difference}
 use Rattle.poly61.specs.Poly.{value}
 

@@ -15,7 +15,8 @@ use poly61::Poly;
 // Fewer points are decoded whole in no more time.
 const MANY_POINTS: usize = 200;
 
-// How many points more than k the first sample has. Each next one has four times as many more.
+// How many points more than k the first sample has at least, and else a quarter of k: a sample that
+// has few more costs as much and bears few wrong ones. Each next one has four times as many more.
 const FIRST_MORE: usize = 16;
 
 // Fills the sample with points at even strides over all of them.
@@ -70,7 +71,7 @@ pub(crate) fn decode_sampled(
     if xs.len() < MANY_POINTS {
         return false;
     }
-    let mut more = FIRST_MORE;
+    let mut more = FIRST_MORE.max(k / 4);
     for _ in 0..32 {
         let size = k.saturating_add(more);
         if size > xs.len() / 2 {

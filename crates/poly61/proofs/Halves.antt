@@ -1,5 +1,5 @@
 -- A product by the halves of its factors.
-use Rattle.std.proofs.Common.{ℕ, zero, suc, ◌+◌, ◌-◌, ◌<◌, ◌≤◌, ◌≡◌, ◌∙◌, sym, ap, ap₂, arith, List, length, get_or}
+use Rattle.std.proofs.Common.{ℕ, zero, suc, ◌+◌, ◌-◌, ◌<◌, ◌≡◌, ◌∙◌, sym, ap, ap₂, arith, List, get_or}
 use Rattle.field61.specs.Field.{field_sum, field_product, field_negative, field_power}
 use Rattle.field61.proofs.FieldLaws.{ring, power_zero, power_below, sum_zero, sum_below, zero_sum, product_below, one_product}
 use Rattle.poly61.specs.Poly.{value, IsZero, HasDegreeBelow}

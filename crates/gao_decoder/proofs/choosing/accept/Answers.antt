@@ -1,4 +1,4 @@
-use Rattle.std.proofs.Common.{arith, refl}
+use Rattle.std.proofs.Common.{refl}
 use Rattle.gao_decoder.proofs.Decoded.{decoded_copy}
 use Rattle.gao_decoder.proofs.choosing.accept.Goals as goal
 

@@ -1,6 +1,4 @@
-use Rattle.std.proofs.Common.{arith, ℕ, ◌≡◌, ◌∙◌, get_or, List}
-use Rattle.std.proofs.lemmas.Bool.{false≢true}
-use Rattle.gao_decoder.specs.Decoding.{IsDecoded}
+use Rattle.std.proofs.Common.{ℕ, ◌≡◌, ◌∙◌, get_or, List}
 use Rattle.gao_decoder.proofs.Decoded.{nonzero_enough, decoded_is, decoded_again}
 use Rattle.gao_decoder.proofs.choosing.close.Goals as goal
 

@@ -1,5 +1,3 @@
-use Rattle.std.proofs.Common.{◌≡◌, true}
-use Rattle.gao_decoder.specs.Decoding.{IsDecodedShort}
 use Rattle.gao_decoder.proofs.Decoded.{short_of_first, short_is_found, short_only}
 use Rattle.gao_decoder.proofs.decoder.decode_short.Goals as goal
 

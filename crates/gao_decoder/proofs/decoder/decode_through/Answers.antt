@@ -1,4 +1,4 @@
-use Rattle.std.proofs.Common.{◌≡◌, ◌∙◌, ℕ, get_or}
+use Rattle.std.proofs.Common.{◌∙◌, get_or}
 use Rattle.poly61.proofs.Lists.{value-same}
 use Rattle.gao_decoder.proofs.Decoded.{decoded_through}
 use Rattle.gao_decoder.proofs.decoder.decode_through.Goals as goal

@@ -1,6 +1,6 @@
-use Rattle.std.proofs.Common.{arith, ℕ, ◌≡◌, ◌<◌, ◌≤◌, ◌+◌, ◌-◌, ◌/◌, ◌∙◌, refl, sym, ap, inl, inr, get_or}
+use Rattle.std.proofs.Common.{ℕ, ◌≡◌, ◌-◌, ◌/◌, ◌∙◌, refl, sym, ap, inl, inr, get_or}
 use Rattle.std.proofs.lemmas.Bool.{cases_lt}
-use Rattle.gao_decoder.specs.Halving.{row_at, TakesTo}
+use Rattle.gao_decoder.specs.Halving.{row_at}
 use Rattle.gao_decoder.proofs.Rows.{takes_after, takes_zero}
 use Rattle.gao_decoder.proofs.halving.+halve.Goals as goal
 

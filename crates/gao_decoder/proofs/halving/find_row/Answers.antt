@@ -1,4 +1,4 @@
-use Rattle.std.proofs.Common.{arith, ℕ, ◌≡◌, ◌<◌, ◌≤◌, refl, length}
+use Rattle.std.proofs.Common.{arith, ◌≡◌, refl, length}
 use Rattle.gao_decoder.proofs.Rows.{tied_from}
 use Rattle.gao_decoder.proofs.halving.find_row.Goals as goal
 

@@ -1,4 +1,4 @@
-use Rattle.std.proofs.Common.{arith, ℕ, ◌≡◌, ◌<◌, ◌≤◌, ◌∙◌, refl, sym, ap, inl, inr, get_or}
+use Rattle.std.proofs.Common.{arith, ℕ, ◌≡◌, ◌∙◌, refl, sym, ap, inl, inr, get_or}
 use Rattle.std.proofs.lemmas.Grind.{common_steps}
 use Rattle.std.proofs.lemmas.Bool.{cases_lt}
 use Rattle.field61.specs.Field.{field_sum, field_product, field_difference, field_negative}

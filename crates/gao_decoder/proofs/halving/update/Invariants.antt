@@ -1,4 +1,4 @@
-use Rattle.std.proofs.Common.{ℕ, ◌≤◌, ◌<◌, ◌≡◌, get_or, length}
+use Rattle.std.proofs.Common.{ℕ, ◌≤◌, ◌<◌, ◌≡◌, get_or}
 use Rattle.gao_decoder.specs.Halving.{row_at}
 use Rattle.gao_decoder.proofs.halving.update.Given as goal
 

@@ -1,4 +1,4 @@
-use Rattle.std.proofs.Common.{◌≡◌, ◌∙◌, ap, arith, inr}
+use Rattle.std.proofs.Common.{◌∙◌, ap}
 use Rattle.field61.specs.Field.{field_sum, field_product, field_negative, field_power}
 use Rattle.field61.proofs.FieldLaws.{product_below, one_product}
 use Rattle.poly61.specs.Poly.{value}
