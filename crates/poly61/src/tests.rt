@@ -79,25 +79,27 @@ fn a_polynomial_keeps_its_room(rt: HostRuntime) -> Result<(), NoMemory> {
     Ok(())
 }
 
+// A polynomial of this room whose first places are filled with numbers that come of a first one.
+fn filled(alloc: Global, room: usize, places: usize, first: Fe) -> Result<Poly, NoMemory> {
+    let mut f = Poly::with_room(alloc, room)?;
+    let mut number = first;
+    for i in 0..places {
+        number = number.mul(number).add(element(1234567890123457));
+        if i < f.room() {
+            f.set_coefficient(i, number);
+        }
+    }
+    Ok(f)
+}
+
 // A product by halves is that by columns.
 #[test]
 fn products_of_many_coefficients(rt: HostRuntime) -> Result<(), NoMemory> {
     let alloc = rt.alloc();
-    let mut f = Poly::with_room(alloc, 300)?;
-    let mut g = Poly::with_room(alloc, 300)?;
-    let mut s = element(987654321987654321);
-    for i in 0..300 {
-        s = s.mul(s).add(element(1234567890123457));
-        f.set_coefficient(i, s);
-        s = s.mul(s).add(element(1234567890123457));
-        if i < 280 {
-            g.set_coefficient(i, s);
-        }
-    }
-    let mut by_halves = Poly::with_room(alloc, 600)?;
-    let mut by_columns = Poly::with_room(alloc, 600)?;
-    by_halves.set_coefficient(0, element(5));
-    by_columns.set_coefficient(0, element(5));
+    let f = filled(alloc, 300, 300, element(987654321987654321))?;
+    let g = filled(alloc, 300, 280, element(123456789123456789))?;
+    let mut by_halves = filled(alloc, 600, 1, element(5))?;
+    let mut by_columns = filled(alloc, 600, 1, element(5))?;
     let mut products = ProductRoom::with_room(alloc, 300, 300)?;
     let mut work = vec![in alloc; Fe::ZERO; 300]?;
     assert_eq!(rt; products.add(&mut by_halves, &f, &g), true);

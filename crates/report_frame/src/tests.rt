@@ -80,18 +80,36 @@ fn names_the_fault_of_an_end(rt: HostRuntime) {
     assert_eq!(rt; fault_of(&longer), Some((FaultKind::Trailing, 139)));
 }
 
-#[test]
-fn reads_at_most_so_many_bytes(rt: HostRuntime) {
+// A frame of this version with a box of 64 bytes and a body of so many, and zeros behind it.
+fn with_longest_box(version: u8, body: u16) -> [u8; 8193] {
     let mut bytes = [0; 8193];
     bytes[..18].copy_from_slice(FRONT);
+    bytes[2] = version;
     bytes[90] = 64;
-    bytes[167..169].copy_from_slice(&3895_u16.to_be_bytes());
-    assert_eq!(rt; fault_of(&bytes[..4096]), None);
-    assert_eq!(rt; fault_of(&bytes[..4097]), Some((FaultKind::TooLong, 4096)));
-    bytes[2] = 2;
-    bytes[167..169].copy_from_slice(&7991_u16.to_be_bytes());
-    assert_eq!(rt; fault_of(&bytes[..8192]), None);
-    assert_eq!(rt; fault_of(&bytes), Some((FaultKind::TooLong, 8192)));
+    bytes[167..169].copy_from_slice(&body.to_be_bytes());
+    bytes
+}
+
+// The first bytes, so many where there are as many.
+fn front(bytes: &[u8], count: usize) -> &[u8] {
+    if count <= bytes.len() {
+        &bytes[..count]
+    } else {
+        bytes
+    }
+}
+
+#[test]
+fn reads_at_most_so_many_bytes(rt: HostRuntime) {
+    let first = with_longest_box(1, 3895);
+    assert_eq!(rt; fault_of(front(&first, 4096)), None);
+    assert_eq!(rt;
+        fault_of(front(&first, 4097)),
+        Some((FaultKind::TooLong, 4096))
+    );
+    let second = with_longest_box(2, 7991);
+    assert_eq!(rt; fault_of(front(&second, 8192)), None);
+    assert_eq!(rt; fault_of(&second), Some((FaultKind::TooLong, 8192)));
 }
 
 #[test]
