@@ -112,15 +112,24 @@ fn the_key_of_the_first_points(rt: HostRuntime) -> Result<(), NoMemory> {
     let key = Key {
         bytes: *b"\x00\x00\x00\x00\x00\x03\x00\x00\x00\x00\x01\x00\x00\x00\x00\x05",
     };
-    let wrong = point(1, [6, 2, 5]);
-    let good = [
+    let front = [
+        point(1, [6, 2, 5]),
         point(2, [7, 3, 5]),
         point(3, [9, 4, 5]),
         point(4, [11, 5, 5]),
     ];
-    let front = [wrong, good[0], good[1], good[2]];
-    let back = [good[0], good[1], good[2], wrong];
-    let apart = [wrong, point(2, [7, 9, 5]), good[1], good[2]];
+    let back = [
+        point(2, [7, 3, 5]),
+        point(3, [9, 4, 5]),
+        point(4, [11, 5, 5]),
+        point(1, [6, 2, 5]),
+    ];
+    let apart = [
+        point(1, [6, 2, 5]),
+        point(2, [7, 9, 5]),
+        point(3, [9, 4, 5]),
+        point(4, [11, 5, 5]),
+    ];
     assert_eq!(rt; recover_short(&mut work, &front, 2), None);
     assert_eq!(rt;
         recover_short(&mut work, &back, 2),
