@@ -86,5 +86,3 @@ fn words_in(rt: &HostRuntime) -> Result<Words, Status> {
 
 #[cfg(test)]
 mod tests;
-#[cfg(test)]
-mod tests_groups;
