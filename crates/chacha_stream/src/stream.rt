@@ -1,3 +1,4 @@
+// Encrypting and decrypting by the keystream.
 ghost use Rattle.std.specs.Prelude.{◌≡◌, ◌+◌, ◌*◌, ◌^◌, ◌≤◌, length};
 ghost use Rattle.chacha_stream.specs.Keystream.{keystream, xor_bytes};
 

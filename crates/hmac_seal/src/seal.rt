@@ -1,3 +1,4 @@
+// HMAC-SHA-256, and whether a seal is that of its message.
 ghost use Rattle.std.specs.Prelude.{◌≡◌, ◌↔◌, ◌++◌, IsTrue};
 ghost use Rattle.hmac_seal.specs.Hmac.{hmac_sha256};
 ghost use Rattle.sha2.specs.Sha256.{sha256};

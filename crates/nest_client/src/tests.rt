@@ -73,27 +73,29 @@ fn one_to_eight_layers(rt: HostRuntime) -> Result<(), NoMemory> {
     Ok(())
 }
 
+// How many extra bytes there are, how long the report of sixteen layers then is, and the hash of all reports.
+const WITH_EXTRA_BYTES: [(usize, usize, [u8; 32]); 3] = [
+    (
+        0,
+        3232,
+        *b"\x49\x7b\xfb\x47\x9b\x85\x74\xfa\x8c\x9c\x88\x8f\xfb\x65\xf4\x96\x9b\x54\xb9\xd4\x56\x2a\x4d\xbf\x53\x86\xce\x2c\x60\xf5\xf4\xf6",
+    ),
+    (
+        1,
+        3233,
+        *b"\x44\x5a\xa5\x11\xdc\x48\xc8\xcf\x4c\x26\xde\xeb\x7b\xc7\x9a\x8d\xfb\x60\x91\x7b\x48\xfd\x58\x91\x65\xbb\xbe\x56\x33\x77\xbf\xe9",
+    ),
+    (
+        255,
+        3487,
+        *b"\x60\xf6\x85\xfe\xfb\xf2\xeb\xa4\xec\x7a\x4b\x4e\x05\xf3\x88\xc4\xdb\x2b\xfe\x04\x93\xe0\x07\x4b\x7f\xe6\xab\x82\x59\xea\x54\xf9",
+    ),
+];
+
 // The same in version 2, with no, one and as many extra bytes as there may be.
 #[test]
 fn one_to_sixteen_layers_with_extra_bytes(rt: HostRuntime) -> Result<(), NoMemory> {
-    let cases: [(usize, usize, [u8; 32]); 3] = [
-        (
-            0,
-            3232,
-            *b"\x49\x7b\xfb\x47\x9b\x85\x74\xfa\x8c\x9c\x88\x8f\xfb\x65\xf4\x96\x9b\x54\xb9\xd4\x56\x2a\x4d\xbf\x53\x86\xce\x2c\x60\xf5\xf4\xf6",
-        ),
-        (
-            1,
-            3233,
-            *b"\x44\x5a\xa5\x11\xdc\x48\xc8\xcf\x4c\x26\xde\xeb\x7b\xc7\x9a\x8d\xfb\x60\x91\x7b\x48\xfd\x58\x91\x65\xbb\xbe\x56\x33\x77\xbf\xe9",
-        ),
-        (
-            255,
-            3487,
-            *b"\x60\xf6\x85\xfe\xfb\xf2\xeb\xa4\xec\x7a\x4b\x4e\x05\xf3\x88\xc4\xdb\x2b\xfe\x04\x93\xe0\x07\x4b\x7f\xe6\xab\x82\x59\xea\x54\xf9",
-        ),
-    ];
-    for (length, longest, digest) in cases {
+    for (length, longest, digest) in WITH_EXTRA_BYTES {
         let bytes = counted::<255>(7);
         let (extra, _) = bytes.split_at(length.min(255));
         let extra = Extra::of(extra).unwrap_or_default();
