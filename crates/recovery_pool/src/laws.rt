@@ -1,16 +1,23 @@
-//! Laws of the ticket word and of lists of answers.
+//! Laws of the ticket word and of lists of answers, and the limits in plain numbers.
 //!
 //! Each function does nothing, and its clause is the law. `TicketsStand` is the rule of the word:
 //! each kind of step keeps it, so it holds between any two steps, for any passes in any threads.
 ghost use Rattle.std.specs.Prelude.{◌≡◌, ◌≢◌, ℕ, ◌+◌, ◌<◌, ◌≤◌, false, true, List, [], ◌∷◌, ◌++◌, slice_set};
 ghost use mathlib.Core.Option.{some};
 ghost use lib.ListN.{get_elem?};
+ghost use Rattle.recovery_pool.specs.declared.limits.TheConstants.{MAX_JOBS, MAX_WORKERS};
 ghost use Rattle.recovery_pool.specs.declared.pass_view.PassView.{PassView};
 ghost use Rattle.recovery_pool.specs.Answers.{AnswersEach, HaveOneAnswer};
 ghost use Rattle.recovery_pool.specs.Standing.{HasEachOnce, TicketsStand};
 ghost use Rattle.recovery_pool.specs.Steps.{after_draw, begins_with, fresh, joined, keeps_rest, nobody};
 
 use crate::job::Job;
+
+/// The most jobs and the most workers in plain numbers.
+pub fn limits()
+    ensures jobs { MAX_JOBS ≡ 4294967296 }
+    ensures workers { MAX_WORKERS ≡ 64 }
+{}
 
 /// The tickets stand where the word is 0 and the one pass has the share of all workers.
 pub fn stand_at_first()

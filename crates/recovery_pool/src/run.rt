@@ -1,3 +1,4 @@
+// Jobs, done by several workers.
 ghost use Rattle.std.specs.Prelude.{◌≡◌, ℕ, ◌<◌, ◌≤◌, IfOk, vec_len, slice_index_or};
 ghost use Rattle.std.specs.Thread.{IsSync, IsSend};
 ghost use Rattle.recovery_pool.specs.declared.limits.TheConstants.{MAX_JOBS, MAX_WORKERS};
