@@ -13,7 +13,8 @@ use Rattle.poly61.proofs.Values.{value-zero}
 associated : (a b c : ℕ) → field_product a (field_product b c) ≡ field_product (field_product a b) c
 associated a b c = simp ring
 
-power-plus : (x m n : ℕ) → field_power x (m + n) ≡ field_product (field_power x m) (field_power x n)
+-- the sum of two exponents
+pub power-plus : (x m n : ℕ) → field_power x (m + n) ≡ field_product (field_power x m) (field_power x n)
 power-plus x zero n = ap (field_power x) {x = zero + n} {y = n} (omega arith) ∙ sym (ap (λ y. field_product y (field_power x n)) (power_zero x) ∙ one_product (field_power x n) (power_below x n))
 power-plus x (suc m) n =
     ap (field_power x) {x = suc m + n} {y = suc (m + n)} (omega arith) ∙ power-suc x (m + n) ∙ ap (field_product x) (power-plus x m n) ∙ associated x (field_power x m) (field_power x n)

@@ -15,12 +15,13 @@ pub fn fill_powers(powers: &mut [Fe], x: Fe) -> Fe
     ensures top { result ≡ field_power x 32 }
     ensures below { result < MODULUS }
 {
-    let mut power = Fe::ONE;
-    for i in 0..powers.len() {
-        powers[i] = power;
-        power = power.mul(x);
+    x.know_element();
+    powers[0] = Fe::ONE;
+    powers[1] = x;
+    for i in 2..powers.len() {
+        powers[i] = powers[i / 2].mul(powers[i - i / 2]);
     }
-    power
+    powers[31].mul(x)
 }
 
 /// The value at x of the polynomial of these places.

@@ -32,11 +32,13 @@ pub(crate) fn places_of(coefficients: &[Fe], places: usize) -> usize
     0
 }
 
-pub(crate) fn clear_all(coefficients: &mut [Fe])
+pub(crate) fn clear_all(coefficients: &mut [Fe], places: usize)
+    requires within { places ≤ length coefficients.old }
+    requires below { HasDegreeBelow coefficients.old places }
     ensures { IsZero coefficients.new }
 {
-    for coefficient in coefficients.iter_mut() {
-        *coefficient = Fe::ZERO;
+    for i in 0..places {
+        coefficients[i] = Fe::ZERO;
     }
 }
 

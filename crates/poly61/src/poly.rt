@@ -1,4 +1,4 @@
-ghost use Rattle.std.specs.Prelude.{IsTrue, ◌≡◌, ◌≢◌, ◌⊎◌, ◌↔◌, ℕ, ◌<◌, ◌≤◌, ◌+◌, ◌-◌, length, slice_index, slice_set, Some, IsNone, IfOk};
+ghost use Rattle.std.specs.Prelude.{IsTrue, false, ◌≡◌, ◌≢◌, ◌⊎◌, ◌↔◌, ℕ, ◌<◌, ◌≤◌, ◌+◌, ◌-◌, length, slice_index, slice_set, Some, IsNone, IfOk};
 ghost use Rattle.field61.specs.Field.{field_difference, field_product, field_power, AreElements};
 ghost use Rattle.field61.specs.declared.TheConstants.{MODULUS};
 ghost use Rattle.poly61.specs.Poly.{value, IsZero, HasDegree, HasDegreeBelow, SameCoefficients, IsLinearMultiple, TakesOff, AreDistinct, PassesThrough};
@@ -91,7 +91,7 @@ impl Poly {
         ensures room { length self.new ≡ length self.old }
         ensures zero { IsZero self.new }
     {
-        clear_all(&mut self.coefficients);
+        clear_all(&mut self.coefficients, self.places);
         self.places = 0;
     }
 
@@ -134,9 +134,11 @@ impl Poly {
         value_in_blocks(&self.coefficients, self.places, powers, top, x)
     }
 
-    /// Makes it c · itself + d · other, where there is room.
+    /// Makes it c · itself + d · other, where there is room. It may answer true for rooms that differ.
     pub fn blend(&mut self, c: Fe, d: Fe, other: &Poly) -> bool
         ensures room { length self.new ≡ length self.old }
+        ensures one_room { length other.now ≡ length self.old → IsTrue result }
+        ensures kept { result ≡ false → self.new ≡ self.old }
         ensures blend { IsTrue result → IsBlend self.old self.new c d other.now }
     {
         let room = self.coefficients.len();
@@ -154,9 +156,12 @@ impl Poly {
         true
     }
 
-    /// Adds the product of f and g, where there is room. `work` needs room for g.
+    /// Adds the product of f and g, where there is room. `work` needs room for g. It may answer true in
+    /// less room, where the highest coefficients are 0.
     pub fn add_product(&mut self, f: &Poly, g: &Poly, work: &mut [Fe]) -> bool
         ensures room { length self.new ≡ length self.old }
+        ensures fits { length f.now + length g.now ≤ length self.old + 1 → length g.now ≤ length work.old → IsTrue result }
+        ensures kept { result ≡ false → self.new ≡ self.old }
         ensures product { IsTrue result → AddsProduct self.old self.new f.now g.now }
     {
         if f.places == 0 || g.places == 0 {
@@ -229,9 +234,12 @@ impl Poly {
     /// Multiplies by (x - a), where there is room.
     pub fn times_linear_if_room(&mut self, a: Fe) -> bool
         ensures room { length self.new ≡ length self.old }
+        ensures exactly { IsTrue result ↔ HasDegreeBelow self.old (length self.old - 1) }
         ensures product { IsTrue result → IsLinearMultiple self.new self.old a 0 }
+        ensures kept { result ≡ false → self.new ≡ self.old }
     {
-        if self.places >= self.coefficients.len() {
+        let room = self.coefficients.len();
+        if room > 0 && self.coefficients[room - 1].value() != 0 {
             return false;
         }
         self.times_linear(a);
@@ -241,8 +249,10 @@ impl Poly {
     /// Makes it the polynomial 1, where there is room.
     pub fn become_one(&mut self) -> bool
         ensures room { length self.new ≡ length self.old }
+        ensures exactly { IsTrue result ↔ 0 < length self.old }
         ensures one { IsTrue result → slice_index self.new 0 ≡ 1 }
         ensures below { IsTrue result → HasDegreeBelow self.new 1 }
+        ensures kept { result ≡ false → self.new ≡ self.old }
     {
         if self.coefficients.is_empty() {
             return false;

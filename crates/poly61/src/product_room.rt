@@ -78,6 +78,18 @@ impl Level {
             high,
         })
     }
+
+    // Whether the halves of these factors fit. A level that is much larger would cost more, since all
+    // its room is filled anew for each product.
+    fn has_room(&self, f: &Poly, g: &Poly) -> bool {
+        half_of(f, g) <= self.f_low.room()
+    }
+}
+
+// Half of the places of the larger factor, rounded up.
+fn half_of(f: &Poly, g: &Poly) -> usize {
+    let most = f.places().max(g.places());
+    most - most / 2
 }
 
 // Makes them the places below `at` and those from there on, where both are some and there is room.
@@ -105,8 +117,7 @@ fn prepare(f: &Poly, g: &Poly, level: &mut Level) -> Option<usize>
     level.low.clear();
     level.middle.clear();
     level.high.clear();
-    let most = f.places().max(g.places());
-    let half = most - most / 2;
+    let half = half_of(f, g);
     if !split(f, half, &mut level.f_low, &mut level.f_high) {
         return None;
     }
@@ -152,6 +163,12 @@ fn add_by_halves(
 {
     if f.places() <= FEW_PLACES || g.places() <= FEW_PLACES {
         return out.add_product(f, g, reversed);
+    }
+    let Some((next, below)) = rest.split_first_mut() else {
+        return out.add_product(f, g, reversed);
+    };
+    if next.has_room(f, g) {
+        return add_by_halves(out, f, g, next, below, reversed);
     }
     let Some(half) = prepare(f, g, level) else {
         return out.add_product(f, g, reversed);
