@@ -1,3 +1,4 @@
+// Rows, grouped by the plain form: each is compared with each group.
 ghost use Rattle.std.specs.Prelude.{◌≡◌, ◌<◌, ◌^◌, length, IfOk};
 ghost use Rattle.std.specs.List.{list_any};
 ghost use Rattle.tag_groups.specs.Keys.{is_row_of};
