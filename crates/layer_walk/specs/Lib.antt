@@ -1,0 +1,16 @@
+pub mod Rows
+pub mod Outcomes
+pub mod Members
+pub mod Bodies
+pub mod Levels
+pub mod Reveal
+pub mod Seen
+pub mod Outs
+pub mod Held
+pub mod Made
+pub mod Kept
+pub mod Told
+pub mod Outer
+pub mod Standing
+pub mod Laws
+pub mod Examples

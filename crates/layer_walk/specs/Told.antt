@@ -1,0 +1,54 @@
+-- What one level tells, in the words of the code.
+use Rattle.std.specs.Prelude.{◌≡◌, ℕ, List, [], ◌∷◌, ◌++◌, length, map}
+use Rattle.tag_groups.specs.GroupView.{GroupView}
+use Rattle.star_lists.specs.Ascending.{in_order}
+use Rattle.layer_walk.specs.declared.group.GroupOut.{GroupOut}
+use Rattle.layer_walk.specs.declared.level.Level.{Level}
+use Rattle.layer_walk.specs.declared.outcome.Outcome.{Outcome}
+use Rattle.layer_walk.specs.declared.outcome.Outcome.TheVariants.{Opened, Few, NoLine, BadValue}
+use Rattle.layer_walk.specs.declared.revealed.OpenedGroup.{OpenedGroup}
+use Rattle.layer_walk.specs.declared.revealed.Revealed.{Revealed}
+use Rattle.layer_walk.specs.declared.tell.Told.{Told}
+use Rattle.layer_walk.specs.Levels.{opened_at, counts_at, refusals_at, aux_at}
+use Rattle.layer_walk.specs.Made.{group_child, named}
+use Rattle.layer_walk.specs.Reveal.{by_path, by_index, by_aux_index}
+
+-- the group as it is told, where it comes out so
+abbrev pub told_under : Level → GroupView → ℕ → Outcome → List OpenedGroup
+told_under level group points (Opened value agree) =
+    record { path = (group_child level group value).path; points = points; agree = agree; members = length group.members } ∷ []
+told_under level group points Few = []
+told_under level group points NoLine = []
+told_under level group points BadValue = []
+
+-- the group as it is told, where it is opened
+abbrev pub told_group : Level → GroupView → GroupOut → List OpenedGroup
+told_group level group out = told_under level group out.points out.outcome
+
+-- the opened groups as they are told, in the order of the groups
+abbrev pub told_groups : Level → List GroupView → List GroupOut → List OpenedGroup
+told_groups level [] outs = []
+told_groups level (g ∷ gs) [] = []
+told_groups level (g ∷ gs) (o ∷ os) = told_group level g o ++ told_groups level gs os
+
+-- how the groups came out
+abbrev pub outcomes_of : List GroupOut → List Outcome
+outcomes_of outs = map (λ (o : GroupOut). o.outcome) outs
+
+-- A level more is told.
+pub record TellsLevel (level : Level) (old new : Told) : Type 0 where
+  pub groups : new.groups.items ≡ old.groups.items ++ opened_at level.epoch level.number (named level)
+  pub levels : new.levels ≡ old.levels ++ counts_at level.epoch level.number (named level)
+  pub refusals : new.refusals.items ≡ old.refusals.items ++ refusals_at level.epoch level.number (named level)
+  pub aux : new.aux.items ≡ old.aux.items ++ aux_at level.epoch level.number (named level)
+
+-- what is told, in its order
+abbrev pub revealed_of : ℕ → ℕ → Told → Revealed
+revealed_of records rows told = record {
+  records = records;
+  rows = rows;
+  groups = in_order by_path told.groups.items;
+  levels = told.levels;
+  refusals = in_order by_index told.refusals.items;
+  aux = in_order by_aux_index told.aux.items;
+}

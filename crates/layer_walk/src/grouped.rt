@@ -1,0 +1,49 @@
+// A level with the groups of its rows.
+ghost use Rattle.std.specs.Prelude.{◌≡◌, ◌<◌, ◌^◌, length, IfOk};
+ghost use Rattle.tag_groups.specs.Grouped.{groups_of};
+
+use crate::level::{Level, Parents};
+use star_io::NoMemory;
+use std::alloc::Global;
+use tag_groups::{Grouped, Grouper, Groups, Row};
+
+/// A level, and the groups of its rows.
+#[derive(Drop)]
+pub(crate) struct GroupedLevel {
+    pub(crate) level: Level,
+    pub(crate) groups: Groups,
+}
+
+/// The level of these rows. It takes no memory.
+pub(crate) fn with_groups(
+    number: u8,
+    epoch: u32,
+    parents: Parents,
+    grouper: Grouper,
+) -> GroupedLevel
+    ensures level { result.level ≡ record { number = number; epoch = epoch; parents = parents; rows = grouper } }
+    ensures groups { result.groups ≡ groups_of grouper }
+{
+    let Grouped { rows, groups } = grouper.finish();
+    GroupedLevel {
+        level: Level {
+            number,
+            epoch,
+            parents,
+            rows,
+        },
+        groups,
+    }
+}
+
+/// The rows as a grouper takes them, in their order.
+pub(crate) fn grouper_of(alloc: Global, rows: Vec<Row>) -> Result<Grouper, NoMemory>
+    requires { length rows.items < 2 ^ 32 }
+    ensures { IfOk result (λ grouper. grouper ≡ rows.items) }
+{
+    let mut grouper = Grouper::new(alloc);
+    for row in rows {
+        grouper.add(row)?;
+    }
+    Ok(grouper)
+}
