@@ -1,0 +1,4 @@
+pub mod Escape
+pub mod Names
+pub mod Paths
+pub mod RevealText

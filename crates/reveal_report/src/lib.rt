@@ -1,0 +1,19 @@
+//! What a stream of records tells, as printed text.
+//!
+//! `specs/` has the lines: Escape says how bytes are printed, Names how refusals are, Paths how the
+//! way to an opened group is, and RevealText has the lines themselves, in their order.
+#![tactic(auto)]
+
+mod escape;
+mod line;
+mod lines;
+mod names;
+mod paths;
+mod summary;
+mod text;
+
+pub use summary::summary_of;
+pub use text::text_of;
+
+#[cfg(test)]
+mod tests;
