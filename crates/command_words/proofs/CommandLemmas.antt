@@ -1,5 +1,5 @@
 -- The command of words, by their verb.
-use Rattle.std.proofs.Common.{◌≡◌, ◌∙◌, ℕ, List, [], ◌∷◌, codes, Option, Some, None, option_and_then, Result, Ok, Err, IfOk, refl, sym, ap, subst}
+use Rattle.std.proofs.Common.{◌≡◌, ◌∙◌, ◌≤◌, ℕ, List, [], ◌∷◌, codes, Option, Some, None, option_and_then, Result, Ok, Err, IfOk, refl, sym, ap, subst, arith}
 use Rattle.std.specs.Option.{ok_or, option_map_or}
 use Rattle.std.specs.Prelude.{◌-◌, ◌^◌, option_map}
 use Rattle.std.proofs.lemmas.Result.{IfOk-weaker}
@@ -7,16 +7,23 @@ use Rattle.command_words.specs.Numbers.{number_in}
 use Rattle.command_words.specs.Options.{Text, Pair, value_of}
 use Rattle.command_words.specs.Seed.{seed_of}
 use Rattle.command_words.specs.Thresholds.{thresholds_of}
+use Rattle.command_words.specs.Generate.{gen_by, gen_of, number_of, IsTrial}
 use Rattle.command_words.specs.Make.{make_by, make_of, version_of}
+use Rattle.command_words.specs.Reveal.{reveal_by, reveal_of}
+use Rattle.command_words.specs.Workers.{workers_of, AreWorkers}
+use Rattle.command_words.specs.declared.generate.TheConstants.{MAX_LIARS, MAX_REPORTS}
+use Rattle.command_words.specs.declared.workers.TheConstants.{DEFAULT_WORKERS}
+use Rattle.recovery_pool.specs.declared.limits.TheConstants.{MAX_WORKERS}
 use Rattle.command_words.specs.Verb.{verb_of, command_by}
-use Rattle.command_words.specs.Words.{HasThresholds, command_of, command_with}
+use Rattle.command_words.specs.Words.{HasGoodOptions, command_of, command_with}
 use Rattle.command_words.specs.declared.command.Command.{Command}
-use Rattle.command_words.specs.declared.command.Command.TheVariants.{Make}
+use Rattle.command_words.specs.declared.command.Command.TheVariants.{Check, Reveal, Make, Gen, SelfTest}
 use Rattle.report_frame.specs.declared.version.Version.{Version}
 use Rattle.command_words.specs.declared.verb.Verb.{Verb}
 use Rattle.command_words.specs.declared.verb.Verb.TheVariants as verb
 use Rattle.command_words.specs.declared.command.WordsError.{WordsError}
 use Rattle.command_words.specs.declared.command.WordsError.TheVariants.{Usage}
+use Rattle.command_words.proofs.NumberLemmas.{number_in-range}
 use Rattle.command_words.proofs.ThresholdLemmas.{thresholds_of-good}
 
 -- ---- each verb
@@ -50,10 +57,48 @@ pub answer-usage : (wanted given : Option Command) (answer : Result Command Word
 answer-usage wanted None answer same is usage = same
 answer-usage wanted (Some command) answer same is usage = let bad : Ok command ≡ Err Usage = sym is ∙ usage in cc bad
 
--- ---- the thresholds of a command
+-- ---- the options of a command
+
+-- the number of workers of options is good
+workers_of-good : (text : Option Text) (workers : ℕ) → option_map_or (number_in 1 MAX_WORKERS) text (Some DEFAULT_WORKERS) ≡ Some workers → AreWorkers workers
+workers_of-good None workers is = let four : DEFAULT_WORKERS ≡ workers = cc is in subst AreWorkers four (omega arith, omega arith)
+workers_of-good (Some text) workers is = number_in-range 1 MAX_WORKERS workers text is
+
+-- the number of an option is in its range
+number_of-range : (low high n : ℕ) (text : Option Text) → option_and_then (number_in low high) text ≡ Some n → (low ≤ n) × (n ≤ high)
+number_of-range low high n None is = cc is
+number_of-range low high n (Some text) is = number_in-range low high n text is
+
+-- options of `reveal` give good workers
+reveal_of-good : (options : List Pair) (command : Command) → reveal_of options ≡ Some command → HasGoodOptions command
+reveal_of-good options command is =
+    go (option_and_then (number_in 0 (2 ^ 32 - 1)) (value_of options (codes "epoch"))) (workers_of options) (workers_of-good (value_of options (codes "workers"))) is
+  where
+    go : (epoch workers : Option ℕ) → ((n : ℕ) → workers ≡ Some n → AreWorkers n) → reveal_by epoch workers ≡ Some command → HasGoodOptions command
+    go None workers good is = cc is
+    go (Some epoch) None good is = cc is
+    go (Some epoch) (Some workers) good is = let it : Reveal epoch workers ≡ command = cc is in subst HasGoodOptions it (good workers refl)
+
+-- options of `gen` give a good trial
+gen_of-good : (options : List Pair) (command : Command) → gen_of options ≡ Some command → HasGoodOptions command
+gen_of-good options command is =
+    go (number_of options (codes "number") 0 (2 ^ 32 - 1)) (number_of options (codes "reports") 1 MAX_REPORTS) (number_of options (codes "liars") 0 MAX_LIARS) (workers_of options)
+    (λ n is. number_of-range 1 MAX_REPORTS n (value_of options (codes "reports")) is) (λ n is. (number_of-range 0 MAX_LIARS n (value_of options (codes "liars")) is).1)
+    (workers_of-good (value_of options (codes "workers"))) is
+  where
+    go : (number reports liars workers : Option ℕ) → ((n : ℕ) → reports ≡ Some n → (1 ≤ n) × (n ≤ MAX_REPORTS)) → ((n : ℕ) → liars ≡ Some n → n ≤ MAX_LIARS)
+        → ((n : ℕ) → workers ≡ Some n → AreWorkers n) → gen_by number reports liars workers ≡ Some command → HasGoodOptions command
+    go None reports liars workers few part good is = cc is
+    go (Some number) None liars workers few part good is = cc is
+    go (Some number) (Some reports) None workers few part good is = cc is
+    go (Some number) (Some reports) (Some liars) None few part good is = cc is
+    go (Some number) (Some reports) (Some liars) (Some workers) few part good is =
+        let it : Gen number reports liars workers ≡ command = cc is in
+        let trial : IsTrial reports liars = record { some = (few reports refl).0; few = (few reports refl).1; part = part liars refl } in
+        subst HasGoodOptions it (trial, good workers refl)
 
 -- options of `make` give good thresholds
-make_of-good : (options : List Pair) (command : Command) → make_of options ≡ Some command → HasThresholds command
+make_of-good : (options : List Pair) (command : Command) → make_of options ≡ Some command → HasGoodOptions command
 make_of-good options command is = at (version_of options) is
   where
     epoch : Option ℕ
@@ -63,32 +108,34 @@ make_of-good options command is = at (version_of options) is
     seed = option_map_or (λ text. option_map Some (seed_of text)) (value_of options (codes "seed")) (Some None)
 
     made : (version : Version) (epoch : ℕ) (text : Text) (thresholds : Option (List ℕ)) (seed : Option (Option (List ℕ))) (command : Command)
-        → thresholds_of version text ≡ thresholds → make_by version (Some epoch) thresholds seed ≡ Some command → HasThresholds command
+        → thresholds_of version text ≡ thresholds → make_by version (Some epoch) thresholds seed ≡ Some command → HasGoodOptions command
     made version epoch text None seed command of_text is = cc is
     made version epoch text (Some thresholds) None command of_text is = cc is
     made version epoch text (Some thresholds) (Some seed) command of_text is =
         let it : Make epoch version thresholds seed ≡ command = cc is in
-        subst HasThresholds it (thresholds_of-good version text thresholds of_text)
+        subst HasGoodOptions it (thresholds_of-good version text thresholds of_text)
 
     go : (version : Version) (epoch : Option ℕ) (text : Option Text) (seed : Option (Option (List ℕ))) (command : Command)
-        → make_by version epoch (option_and_then (thresholds_of version) text) seed ≡ Some command → HasThresholds command
+        → make_by version epoch (option_and_then (thresholds_of version) text) seed ≡ Some command → HasGoodOptions command
     go version None text seed command is = cc is
     go version (Some epoch) None seed command is = cc is
     go version (Some epoch) (Some text) seed command is = made version epoch text (thresholds_of version text) seed command refl is
 
-    at : (version : Option Version) → option_and_then (λ v. make_by v epoch (option_and_then (thresholds_of v) (value_of options (codes "thresholds"))) seed) version ≡ Some command → HasThresholds command
+    at : (version : Option Version) → option_and_then (λ v. make_by v epoch (option_and_then (thresholds_of v) (value_of options (codes "thresholds"))) seed) version ≡ Some command → HasGoodOptions command
     at None is = cc is
     at (Some version) is = go version epoch (value_of options (codes "thresholds")) seed command is
 
--- options of a verb do
-verb-good : (verb : Verb) (options : List Pair) (command : Command) → command_by verb options ≡ Some command → HasThresholds command
+-- options of a verb give good ones
+verb-good : (verb : Verb) (options : List Pair) (command : Command) → command_by verb options ≡ Some command → HasGoodOptions command
+verb-good verb.Check options command is = let it : Check ≡ command = cc is in subst HasGoodOptions it tt
+verb-good verb.Reveal options command is = reveal_of-good options command is
 verb-good verb.Make options command is = make_of-good options command is
-verb-good other options (Make epoch version thresholds seed) is = cc is
-verb-good other options command is = tt
+verb-good verb.Gen options command is = gen_of-good options command is
+verb-good verb.SelfTest options command is = let it : SelfTest ≡ command = cc is in subst HasGoodOptions it tt
 
 -- and so does an answer
-pub answer-thresholds : (verb : Verb) (options : Option (List Pair)) (answer : Result Command WordsError)
-    → IfOk answer (λ command. option_and_then (λ o. command_by verb o) options ≡ Some command) → IfOk answer HasThresholds
-answer-thresholds verb None answer given = IfOk-weaker answer (λ command. None ≡ Some command) HasThresholds (λ command is. cc is) given
-answer-thresholds verb (Some options) answer given =
-    IfOk-weaker answer (λ command. command_by verb options ≡ Some command) HasThresholds (λ command is. verb-good verb options command is) given
+pub answer-good : (verb : Verb) (options : Option (List Pair)) (answer : Result Command WordsError)
+    → IfOk answer (λ command. option_and_then (λ o. command_by verb o) options ≡ Some command) → IfOk answer HasGoodOptions
+answer-good verb None answer given = IfOk-weaker answer (λ command. None ≡ Some command) HasGoodOptions (λ command is. cc is) given
+answer-good verb (Some options) answer given =
+    IfOk-weaker answer (λ command. command_by verb options ≡ Some command) HasGoodOptions (λ command is. verb-good verb options command is) given

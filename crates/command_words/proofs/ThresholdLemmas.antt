@@ -11,8 +11,9 @@ use Rattle.report_frame.specs.Thresholds.{AreThresholds}
 use Rattle.report_frame.specs.Versions.{max_layers, max_threshold}
 use Rattle.report_frame.specs.declared.limits.TheConstants.{MIN_THRESHOLD}
 use Rattle.report_frame.specs.declared.version.Version.{Version}
-use Rattle.command_words.specs.Numbers.{is_number, is_number_in, number_in}
+use Rattle.command_words.specs.Numbers.{is_number_in, number_in}
 use Rattle.command_words.specs.Thresholds.{is_threshold, parts_of, thresholds_of}
+use Rattle.command_words.proofs.NumberLemmas.{number_in-bounds}
 
 -- where all parts were read, these are the thresholds
 pub thresholds-read : (version : Version) (text : List ℕ) (parts : List (List ℕ)) (values : List ℕ) → parts ≡ parts_of text → length parts ≤ (max_layers version)
@@ -48,13 +49,6 @@ number_in-none low high text none =
       | inl e ↦ let bad : Some (digits_value 10 text) ≡ None = rw e at none in cc bad
       | inr e ↦ e
     ]
-
--- a text of the range has a value in the range
-number_in-bounds : (low high : ℕ) (text : List ℕ) → is_number_in low high text ≡ true → (low ≤ digits_value 10 text) × (digits_value 10 text ≤ high)
-number_in-bounds low high text good =
-    let parts = and_parts (is_number text && nat_le low (digits_value 10 text)) (nat_le (digits_value 10 text) high) good in
-    let least = and_parts (is_number text) (nat_le low (digits_value 10 text)) parts.0 in
-    (leb-true low (digits_value 10 text) least.1, leb-true (digits_value 10 text) high parts.1)
 
 -- the thresholds of a text are good
 pub thresholds_of-good : (version : Version) (text values : List ℕ) → thresholds_of version text ≡ Some values → AreThresholds version values

@@ -1,9 +1,12 @@
+pub mod Generate
 pub mod Numbers
 pub mod Options
 pub mod Parse
+pub mod Reveal
 pub mod Seed
 pub mod Thresholds
 pub mod Make
 pub mod Verb
 pub mod Version
 pub mod Words
+pub mod Workers

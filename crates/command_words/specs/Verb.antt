@@ -2,28 +2,36 @@
 use Rattle.std.specs.Prelude.{List, [], codes, Option, Some, None, if◌then◌else◌}
 use Rattle.std.specs.Str.{bytes_eq}
 use Rattle.command_words.specs.Options.{Text, Pair}
+use Rattle.command_words.specs.Generate.{gen_names, gen_of}
 use Rattle.command_words.specs.Make.{make_names, make_of}
+use Rattle.command_words.specs.Reveal.{reveal_names, reveal_of}
 use Rattle.command_words.specs.declared.command.Command.{Command}
 use Rattle.command_words.specs.declared.command.Command.TheVariants as command
 use Rattle.command_words.specs.declared.verb.Verb.{Verb}
-use Rattle.command_words.specs.declared.verb.Verb.TheVariants.{Check, Make, SelfTest}
+use Rattle.command_words.specs.declared.verb.Verb.TheVariants.{Check, Reveal, Make, Gen, SelfTest}
 
 -- the verb of a word
 abbrev pub verb_of : Text → Option Verb
 verb_of word =
     if bytes_eq word (codes "check") then Some Check
+    else if bytes_eq word (codes "reveal") then Some Reveal
     else if bytes_eq word (codes "make") then Some Make
+    else if bytes_eq word (codes "gen") then Some Gen
     else if bytes_eq word (codes "selftest") then Some SelfTest
     else None
 
 -- the names of its options
 abbrev pub names_of : Verb → List Text
 names_of Check = []
+names_of Reveal = reveal_names
 names_of Make = make_names
+names_of Gen = gen_names
 names_of SelfTest = []
 
 -- the command that its options give
 abbrev pub command_by : Verb → List Pair → Option Command
 command_by Check options = Some command.Check
+command_by Reveal options = reveal_of options
 command_by Make options = make_of options
+command_by Gen options = gen_of options
 command_by SelfTest options = Some command.SelfTest

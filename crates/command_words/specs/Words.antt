@@ -1,10 +1,12 @@
 -- What the words of the command line ask for: a verb, and the options of that verb.
 use Rattle.std.specs.Prelude.{⊤, List, [], ◌∷◌, Option, None, option_and_then}
 use Rattle.report_frame.specs.Thresholds.{AreThresholds}
+use Rattle.command_words.specs.Generate.{IsTrial}
 use Rattle.command_words.specs.Options.{Text, options_of}
 use Rattle.command_words.specs.Verb.{verb_of, names_of, command_by}
+use Rattle.command_words.specs.Workers.{AreWorkers}
 use Rattle.command_words.specs.declared.command.Command.{Command}
-use Rattle.command_words.specs.declared.command.Command.TheVariants.{Make}
+use Rattle.command_words.specs.declared.command.Command.TheVariants.{Check, Reveal, Make, Gen, SelfTest}
 use Rattle.command_words.specs.declared.verb.Verb.{Verb}
 
 -- the command of a verb by the words after it, or none
@@ -16,7 +18,10 @@ unfoldable pub command_of : List Text → Option Command
 command_of [] = None
 command_of (word ∷ words) = option_and_then (λ verb. command_with verb words) (verb_of word)
 
--- where a command has thresholds, they are good
-abbrev pub HasThresholds : Command → Type 0
-HasThresholds (Make epoch version thresholds seed) = AreThresholds version thresholds
-HasThresholds command = ⊤
+-- what a command has of thresholds, workers, reports and liars is good
+abbrev pub HasGoodOptions : Command → Type 0
+HasGoodOptions Check = ⊤
+HasGoodOptions (Reveal epoch workers) = AreWorkers workers
+HasGoodOptions (Make epoch version thresholds seed) = AreThresholds version thresholds
+HasGoodOptions (Gen number reports liars workers) = IsTrial reports liars × AreWorkers workers
+HasGoodOptions SelfTest = ⊤

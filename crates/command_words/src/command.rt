@@ -1,7 +1,7 @@
 // What the words of the command line ask for.
 ghost use Rattle.std.specs.Prelude.{◌≡◌, ◌∷◌, None, Some, Err, IfOk};
 ghost use Rattle.command_words.specs.Options.{texts_of};
-ghost use Rattle.command_words.specs.Words.{command_with, command_of, HasThresholds};
+ghost use Rattle.command_words.specs.Words.{command_with, command_of, HasGoodOptions};
 ghost use Rattle.command_words.specs.declared.command.WordsError.TheVariants.{NoMemory};
 
 use crate::options::Options;
@@ -16,6 +16,12 @@ use std::alloc::{AllocError, Global};
 pub enum Command {
     /// Reads a stream of records, and prints a line for each.
     Check,
+    /// Reads a stream of records, and prints what it tells for an epoch.
+    Reveal {
+        epoch: u32,
+        /// How many open groups beside each other. They change nothing of what is printed.
+        workers: u32,
+    },
     /// Reads a table, and prints the stream of the reports of its rows.
     Make {
         epoch: u32,
@@ -25,6 +31,16 @@ pub enum Command {
         thresholds: Thresholds,
         /// Of it come the coins of all clients.
         seed: Option<[u8; 32]>,
+    },
+    /// Makes a stream for trials, and prints a summary of what it tells.
+    Gen {
+        /// Beside the two that follow, it alone determines the stream.
+        number: u32,
+        reports: u32,
+        /// How many in a hundred have a wrong share.
+        liars: u32,
+        /// As those of `Reveal`.
+        workers: u32,
     },
     /// Computes the vectors of the self test, and prints a line for each.
     SelfTest,
@@ -49,7 +65,7 @@ impl From<AllocError> for WordsError {
 /// The command that the words give.
 pub fn words_of(alloc: Global, words: &Words) -> Result<Command, WordsError>
     ensures command { IfOk result (λ command. command_of words.now ≡ Some command) }
-    ensures thresholds { IfOk result HasThresholds }
+    ensures good { IfOk result HasGoodOptions }
     ensures usage { result ≡ Err WordsError.Usage → command_of words.now ≡ None }
 {
     let texts = words.texts(alloc)?;
@@ -63,7 +79,7 @@ pub fn words_of(alloc: Global, words: &Words) -> Result<Command, WordsError>
 fn read_verb(alloc: Global, word: &str, words: &[&str]) -> Result<Command, WordsError>
     ensures command { IfOk result (λ command.
         command_of (word.now ∷ texts_of words.now) ≡ Some command) }
-    ensures thresholds { IfOk result HasThresholds }
+    ensures good { IfOk result HasGoodOptions }
     ensures usage { result ≡ Err WordsError.Usage
         → command_of (word.now ∷ texts_of words.now) ≡ None }
 {
@@ -82,7 +98,7 @@ fn read_options(
 ) -> Result<Command, WordsError>
     ensures command { IfOk result (λ command.
         command_with verb (texts_of words.now) ≡ Some command) }
-    ensures thresholds { IfOk result HasThresholds }
+    ensures good { IfOk result HasGoodOptions }
     ensures usage { result ≡ Err WordsError.Usage
         → command_with verb (texts_of words.now) ≡ None }
 {

@@ -48,7 +48,7 @@ fn makes(
 }
 
 // Lines of words that give no command.
-const FAULTY_LINES: [&str; 60] = [
+const FAULTY_LINES: [&str; 58] = [
     "",
     "look",
     "Check",
@@ -58,8 +58,6 @@ const FAULTY_LINES: [&str; 60] = [
     "-h",
     "--help",
     "--version",
-    "reveal --epoch 7",
-    "gen --number 1 --reports 1 --liars 0",
     "make",
     "make --epoch 1",
     "make --thresholds 2",
@@ -111,10 +109,55 @@ const FAULTY_LINES: [&str; 60] = [
     "--epoch 1 make --thresholds 2",
 ];
 
+// The same of `reveal` and `gen`.
+const FAULTY_TRIALS: [&str; 41] = [
+    "reveal",
+    "reveal 7",
+    "reveal --workers 2",
+    "reveal --epoch",
+    "reveal --epoch=",
+    "reveal --epoch 7 --epoch 7",
+    "reveal --epoch=7 --epoch 7",
+    "reveal --epoch=7 --workers 65",
+    "reveal --epoch 7 --workers 0",
+    "reveal --epoch 7 --workers 00",
+    "reveal --epoch 7 --workers",
+    "reveal --epoch 7 --workers=",
+    "reveal --epoch 7 --workers +2",
+    "reveal --epoch 7 --workers -2",
+    "reveal --epoch 7 --workers 2 --workers 2",
+    "reveal --epoch +7",
+    "reveal --epoch -7",
+    "reveal --epoch 0x7",
+    "reveal --epoch 4294967296",
+    "reveal --epoch 00000000007",
+    "reveal --epoch 7 --",
+    "reveal --epoch 7 7",
+    "reveal --epoch 7 --thresholds 2",
+    "reveal --epoch 7 --number 1",
+    "Reveal --epoch 7",
+    "gen",
+    "gen --number 7 --reports 0 --liars 0",
+    "gen --number 7 --reports 65537 --liars 0",
+    "gen --number 7 --reports 1 --liars 101",
+    "gen --number 4294967296 --reports 1 --liars 0",
+    "gen --number 7 --reports 1 --liars -1",
+    "gen --number 7 --reports 1",
+    "gen --number 7 --liars 0",
+    "gen --reports 1 --liars 0",
+    "gen --number 7 --reports 1 --liars 0 --workers 0",
+    "gen --number 7 --reports 1 --liars 0 --workers 65",
+    "gen --number 7 --reports 1 --liars 0 --liars 0",
+    "gen --number 7 --reports 1 --liars 0 --epoch 1",
+    "gen --number 7 --reports 1 --liars 0 --",
+    "gen --number 7 --reports 1 --liars 0 x",
+    "gen 7 1 0",
+];
+
 #[test]
 fn faulty_words_are_a_fault_of_usage(rt: HostRuntime) -> Result<(), Fail> {
     let alloc = rt.alloc();
-    for line in FAULTY_LINES {
+    for line in FAULTY_LINES.iter().chain(&FAULTY_TRIALS) {
         assert_eq!(rt; read(alloc, line)?, Err(WordsError::Usage), "{line}");
     }
     Ok(())
@@ -136,6 +179,56 @@ fn verbs_that_stand_alone(rt: HostRuntime) -> Result<(), Fail> {
     let alloc = rt.alloc();
     assert_eq!(rt; read(alloc, "check")?, Ok(Command::Check));
     assert_eq!(rt; read(alloc, "selftest")?, Ok(Command::SelfTest));
+    Ok(())
+}
+
+#[test]
+fn options_of_reveal(rt: HostRuntime) -> Result<(), Fail> {
+    let alloc = rt.alloc();
+    for (line, epoch, workers) in [
+        ("reveal --epoch 7", 7, 4),
+        ("reveal --workers 2 --epoch=007", 7, 2),
+        ("reveal --epoch=0 --workers=1", 0, 1),
+        (
+            "reveal --epoch 4294967295 --workers 0000000064",
+            4294967295,
+            64,
+        ),
+    ] {
+        let wanted = Command::Reveal { epoch, workers };
+        assert_eq!(rt; read(alloc, line)?, Ok(wanted), "{line}");
+    }
+    Ok(())
+}
+
+#[test]
+fn options_of_gen(rt: HostRuntime) -> Result<(), Fail> {
+    let alloc = rt.alloc();
+    for (line, number, reports, liars, workers) in [
+        ("gen --number 7 --reports 20000 --liars 10", 7, 20000, 10, 4),
+        (
+            "gen --liars=0 --workers 64 --reports 1 --number=0",
+            0,
+            1,
+            0,
+            64,
+        ),
+        (
+            "gen --workers=1 --number 4294967295 --reports 65536 --liars 100",
+            4294967295,
+            65536,
+            100,
+            1,
+        ),
+    ] {
+        let wanted = Command::Gen {
+            number,
+            reports,
+            liars,
+            workers,
+        };
+        assert_eq!(rt; read(alloc, line)?, Ok(wanted), "{line}");
+    }
     Ok(())
 }
 

@@ -4,22 +4,32 @@ ghost use Rattle.command_words.specs.Options.{texts_of};
 ghost use Rattle.command_words.specs.Verb.{verb_of, names_of, command_by};
 
 use crate::command::Command;
+use crate::generate::gen_of;
 use crate::make::make_of;
 use crate::options::Options;
+use crate::reveal::reveal_of;
 
 /// What the first word asks for.
 #[derive(Clone, Copy, Debug, PartialEq, Eq)]
 pub enum Verb {
     Check,
+    Reveal,
     Make,
+    Gen,
     SelfTest,
 }
 
 // The names of the options of a verb that stands alone.
 const NO_NAMES: [&str; 0] = [];
 
+// The names of the options of `reveal`.
+const REVEAL_NAMES: [&str; 2] = ["epoch", "workers"];
+
 // The names of the options of `make`.
 const MAKE_NAMES: [&str; 4] = ["epoch", "version", "thresholds", "seed"];
+
+// The names of the options of `gen`.
+const GEN_NAMES: [&str; 4] = ["number", "reports", "liars", "workers"];
 
 impl Verb {
     /// The verb of a word.
@@ -28,7 +38,9 @@ impl Verb {
     {
         match word {
             "check" => Some(Verb::Check),
+            "reveal" => Some(Verb::Reveal),
             "make" => Some(Verb::Make),
+            "gen" => Some(Verb::Gen),
             "selftest" => Some(Verb::SelfTest),
             _ => None,
         }
@@ -40,7 +52,9 @@ impl Verb {
     {
         match self {
             Verb::Check => &NO_NAMES,
+            Verb::Reveal => &REVEAL_NAMES,
             Verb::Make => &MAKE_NAMES,
+            Verb::Gen => &GEN_NAMES,
             Verb::SelfTest => &NO_NAMES,
         }
     }
@@ -51,7 +65,9 @@ impl Verb {
     {
         match self {
             Verb::Check => Some(Command::Check),
+            Verb::Reveal => reveal_of(options),
             Verb::Make => make_of(options),
+            Verb::Gen => gen_of(options),
             Verb::SelfTest => Some(Command::SelfTest),
         }
     }

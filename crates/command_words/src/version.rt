@@ -1,3 +1,4 @@
+// The version of the command line.
 ghost use Rattle.std.specs.Prelude.{◌≡◌};
 ghost use Rattle.command_words.specs.Version.{version_in};
 

@@ -1,48 +1,17 @@
 -- The command `check`.
-use Rattle.std.proofs.Common.{◌≡◌, ◌∙◌, ◌<◌, ℕ, Bool, true, false, List, [], length, drop, Some, None, refl, ap}
-use Rattle.std.specs.Prelude.{nat_lt, ◌↔◌, if◌then◌else◌}
-use Rattle.std.proofs.lemmas.Bool.{lt-ltb, ltb-true}
-use Rattle.star_io.specs.Bytes.{AreBytes}
+use Rattle.std.proofs.Common.{◌≡◌, ◌∙◌, ℕ, List, [], Some, ap}
 use Rattle.star_io.specs.declared.record.Record.{Record}
 use Rattle.star_io.specs.declared.record.TheConstants.{MAX_RECORDS}
-use Rattle.star_io.specs.RecordLists.{stream_records, rest_after, HasMoreThan}
-use Rattle.star_io.proofs.RecordListLaws.{more_follows, follows_more}
+use Rattle.star_io.specs.RecordLists.{stream_records, rest_after}
 use Rattle.command_words.specs.declared.command.Command.TheVariants.{Check}
-use Rattle.star_tool.specs.declared.status.Status.{Status}
-use Rattle.star_tool.specs.declared.status.Status.TheVariants.{TooMany}
 use Rattle.star_tool.specs.CheckText.{check_text_of}
-use Rattle.star_tool.specs.Run.{IsRefused, IsOutput}
+use Rattle.star_tool.specs.Run.{IsOutput}
 use Rattle.star_tool.specs.Seen.{Seen}
-use Rattle.star_tool.specs.Verbs.Check.{check_refusal}
-
--- something behind the last record that is read is a refusal
-many_refused : (bytes : List ℕ) → 0 < length (rest_after MAX_RECORDS bytes) → check_refusal bytes ≡ Some TooMany
-many_refused bytes many = rw (lt-ltb 0 (length (rest_after MAX_RECORDS bytes)) many) refl
-
--- where a byte was seen behind that record, the input is refused, and what is behind the byte is left
-pub check_refused : (input : Seen) → ((bytes : List ℕ) → input.left ≡ Some bytes
-    → (0 < length (rest_after MAX_RECORDS bytes)) × (input.left_after ≡ Some (drop 1 (rest_after MAX_RECORDS bytes)))) → IsRefused Check input TooMany
-check_refused input many = λ bytes told. let behind = many bytes told in (many_refused bytes behind.0, behind.1)
+use Rattle.star_tool.proofs.StreamLemmas.{stream_good}
 
 -- the lines of all records are the output
 pub check_made : (input coins : Seen) (records : List Record) (text : List ℕ) → ((bytes : List ℕ) → input.left ≡ Some bytes
     → (records ≡ stream_records bytes) × (rest_after MAX_RECORDS bytes ≡ []) × (input.left_after ≡ Some [])) → text ≡ check_text_of records → IsOutput Check input coins text
 check_made input coins records text all is = λ bytes told.
     let read = all bytes told in
-    (rw read.1 refl, read.2, ([], tt, is ∙ ap check_text_of read.0))
-
--- ---- what a refusal means
-
--- a test that chooses a refusal has passed where there is one
-chosen : (b : Bool) (status : Status) → (if b then Some TooMany else None) ≡ Some status → (b ≡ true) × (status ≡ TooMany)
-chosen true status is = (refl, cc)
-chosen false status is = absurd cc
-
-pub too_many_means : (bytes : List ℕ) → AreBytes bytes → (check_refusal bytes ≡ Some TooMany) ↔ HasMoreThan MAX_RECORDS bytes
-too_many_means bytes are_bytes = (
-  λ refused. follows_more MAX_RECORDS bytes are_bytes (ltb-true 0 (length (rest_after MAX_RECORDS bytes)) (chosen (nat_lt 0 (length (rest_after MAX_RECORDS bytes))) TooMany refused).0),
-  λ more. many_refused bytes (more_follows MAX_RECORDS bytes more),
-)
-
-pub too_many_only : (bytes : List ℕ) (status : Status) → check_refusal bytes ≡ Some status → status ≡ TooMany
-too_many_only bytes status refused = (chosen (nat_lt 0 (length (rest_after MAX_RECORDS bytes))) status refused).1
+    (stream_good bytes read.1, read.2, ([], tt, is ∙ ap check_text_of read.0))

@@ -7,4 +7,5 @@ pub mod Run
 pub mod Seen
 pub mod SelfTestText
 pub mod Status
+pub mod StreamInput
 pub mod Verbs

@@ -8,7 +8,9 @@ use Rattle.star_vectors.specs.declared.outcome.SelfTestError.TheVariants as vect
 use Rattle.star_io.specs.declared.input_error.InputError.{InputError}
 use Rattle.star_io.specs.declared.input_error.InputError.TheVariants as input
 use Rattle.star_tool.specs.declared.verbs.check.TheConstants as check
+use Rattle.star_tool.specs.declared.verbs.generate.TheConstants as generate
 use Rattle.star_tool.specs.declared.verbs.make.TheConstants as make
+use Rattle.star_tool.specs.declared.verbs.reveal.TheConstants as reveal
 use Rattle.star_tool.specs.declared.verbs.self_test.TheConstants as self_test
 use Rattle.star_tool.specs.declared.status.Status.{Status}
 use Rattle.star_tool.specs.declared.status.Status.TheVariants.{Done, Usage, ReadFault, WriteFault, TooMany, NoMemory, BadTable, ShortCoins, BadVector}
@@ -45,7 +47,9 @@ number_of (BadVector number got wanted) = 9
 -- the line on standard error
 abbrev pub line_of : Status → List ℕ
 line_of Done = []
-line_of Usage = codes "usage: star_tool " ++ check.USAGE.now ++ codes " | " ++ make.USAGE.now ++ codes " | " ++ self_test.USAGE.now ++ codes "\n"
+line_of Usage =
+    codes "usage: star_tool " ++ check.USAGE.now ++ codes " | " ++ reveal.USAGE.now ++ codes " | " ++ make.USAGE.now ++ codes " | " ++ generate.USAGE.now
+    ++ codes " | " ++ self_test.USAGE.now ++ codes "\n"
 line_of ReadFault = codes "read fault\n"
 line_of WriteFault = codes "write fault\n"
 line_of TooMany = codes "too many\n"

@@ -1,4 +1,6 @@
 -- The verbs, each in its own file.
 pub mod Check
+pub mod Generate
 pub mod Make
+pub mod Reveal
 pub mod SelfTest

@@ -1,26 +1,51 @@
-//! Laws of the commands: what a refusal of their input means. Each function does nothing: its
-//! clause is a fact about the definitions that the contract of `run` cites.
+//! Laws of the commands: what a refusal of their input means, and what `reveal` and `gen` tell. Each
+//! function does nothing: its clauses are facts about the definitions that the contract of `run` cites.
 ghost use Rattle.std.specs.Prelude.{◌≡◌, ◌↔◌, ℕ, List, Option, None, Some};
 ghost use Rattle.star_io.specs.Bytes.{AreBytes};
-ghost use Rattle.star_io.specs.RecordLists.{HasMoreThan};
+ghost use Rattle.star_io.specs.RecordLists.{HasMoreThan, stream_records};
 ghost use Rattle.star_io.specs.declared.record.TheConstants.{MAX_RECORDS};
 ghost use Rattle.report_frame.specs.declared.version.Version.{Version};
+ghost use Rattle.nest_client.specs.Generator.{drawn_records};
+ghost use Rattle.layer_walk.specs.Reveal.{reveal_of};
+ghost use Rattle.reveal_report.specs.RevealText.{text_of, summary_of};
 ghost use Rattle.star_vectors.specs.Comparison.{first_differing};
 ghost use Rattle.star_vectors.specs.Vectors.{vectors};
 ghost use Rattle.command_words.specs.declared.command.Command.{Command};
-ghost use Rattle.command_words.specs.declared.command.Command.TheVariants.{Check, Make, SelfTest};
-ghost use Rattle.star_tool.specs.Commands.{refusal_of};
+ghost use Rattle.command_words.specs.declared.command.Command.TheVariants.{Check, Reveal, Make, Gen, SelfTest};
+ghost use Rattle.star_tool.specs.Commands.{refusal_of, output_of};
 ghost use Rattle.star_tool.specs.Verbs.Make.{HasTooMuch, HasBadCell, IsTableText};
 ghost use Rattle.star_tool.specs.declared.status.Status.{Status};
 ghost use Rattle.star_tool.specs.declared.verbs.make.TheConstants.{MAX_TABLE_BYTES};
 
 /// `check` refuses exactly the streams with a byte behind the last record that is read.
-#[tactic(auto, using(crate::proofs::CheckLemmas::too_many_means, crate::proofs::CheckLemmas::too_many_only))]
+#[tactic(auto, using(crate::proofs::StreamLemmas::too_many_means, crate::proofs::StreamLemmas::too_many_only))]
 pub fn check_refuses()
     ensures too_many { (bytes : List ℕ) → AreBytes bytes →
         (refusal_of Check bytes ≡ Some Status.TooMany) ↔ HasMoreThan MAX_RECORDS bytes }
     ensures only { (bytes : List ℕ) (status : Status) →
         refusal_of Check bytes ≡ Some status → status ≡ Status.TooMany }
+{}
+
+/// `reveal` refuses exactly the streams that `check` refuses. Its output is the text of what the records
+/// tell for the epoch, whatever the number of workers.
+#[tactic(auto, using(crate::proofs::StreamLemmas::too_many_means, crate::proofs::StreamLemmas::too_many_only))]
+pub fn reveal_tells()
+    ensures too_many { (epoch workers : ℕ) (bytes : List ℕ) → AreBytes bytes →
+        (refusal_of (Reveal epoch workers) bytes ≡ Some Status.TooMany) ↔ HasMoreThan MAX_RECORDS bytes }
+    ensures only { (epoch workers : ℕ) (bytes : List ℕ) (status : Status) →
+        refusal_of (Reveal epoch workers) bytes ≡ Some status → status ≡ Status.TooMany }
+    ensures text { (epoch workers : ℕ) (bytes seed : List ℕ) →
+        output_of (Reveal epoch workers) bytes seed ≡ text_of (reveal_of epoch (stream_records bytes)) }
+{}
+
+/// `gen` refuses nothing. Its output is the summary of what the records of a stream for trials tell for
+/// their epoch, whatever the number of workers.
+pub fn gen_tells()
+    ensures good { (number reports liars workers : ℕ) (bytes : List ℕ) →
+        refusal_of (Gen number reports liars workers) bytes ≡ None }
+    ensures text { (number reports liars workers : ℕ) (bytes seed : List ℕ) →
+        output_of (Gen number reports liars workers) bytes seed
+        ≡ summary_of (reveal_of 1 (drawn_records number reports liars)) }
 {}
 
 /// `make` refuses exactly what is too much for a table, and else what has a bad place.

@@ -3,12 +3,14 @@
 
 mod check_text;
 mod coins;
+mod feed;
 mod file_source;
 pub mod laws;
 mod output;
 mod run;
 mod self_test_text;
 mod status;
+mod stream_source;
 mod verbs;
 
 pub use check_text::check_text;
@@ -86,3 +88,9 @@ fn words_in(rt: &HostRuntime) -> Result<Words, Status> {
 
 #[cfg(test)]
 mod tests;
+#[cfg(test)]
+mod tests_levels;
+#[cfg(test)]
+mod tests_walk;
+#[cfg(test)]
+mod trial_streams;

@@ -3,7 +3,7 @@ ghost use Rattle.std.specs.Prelude.{◌≡◌, ◌≢◌, ◌⊎◌, ◌≤◌, 
 ghost use Rattle.std.specs.Bool.{OnTrue};
 ghost use Rattle.std.specs.Io.KnownBytes.{Appends};
 ghost use Rattle.star_io.specs.Faults.{Rose};
-ghost use Rattle.command_words.specs.Words.{command_of, HasThresholds};
+ghost use Rattle.command_words.specs.Words.{command_of, HasGoodOptions};
 ghost use Rattle.command_words.specs.declared.command.Command.{Command};
 ghost use Rattle.star_tool.specs.Commands.{reads, draws, refusal_of};
 ghost use Rattle.star_tool.specs.Run.{Tells, IsRefused, IsOutput, Makes, HasReadFault, EndsShort, Reason, is_refusal, Draws, ending, end_of};
@@ -13,7 +13,9 @@ ghost use Rattle.star_tool.specs.declared.status.Status.{Status};
 use crate::output::tell;
 use crate::status::Status;
 use crate::verbs::check::check_output;
+use crate::verbs::generate::gen_output;
 use crate::verbs::make::make_output;
+use crate::verbs::reveal::reveal_output;
 use crate::verbs::self_test::self_test_output;
 use command_words::{Command, Words, WordsError, words_of};
 use recovery_pool::Gate;
@@ -25,14 +27,15 @@ use std::thread::Threads;
 ///
 /// The words are those after the program's name. The command reads `input`, and takes a seed of
 /// `coins` where it makes reports and no seed is given. Its whole output is made before the first
-/// byte of it is told. `gate` is for commands to come: nothing touches it yet.
+/// byte of it is told. `rt` starts the threads of the workers that open groups, and each job of theirs
+/// passes `gate` first.
 pub fn run<R: Threads + Sync, S: Source, C: Source, K: Sink, G: Gate>(
-    _rt: &R,
+    rt: &R,
     alloc: Global,
     words: &Words,
     input: &mut S,
     coins: &mut C,
-    _gate: &G,
+    gate: &G,
     out: &mut K,
 ) -> Status
     // Usage comes exactly where the words give no command, and then nothing is touched.
@@ -85,21 +88,23 @@ pub fn run<R: Threads + Sync, S: Source, C: Source, K: Sink, G: Gate>(
     ensures out_later { K.faults out.old ≤ K.faults out.new }
 {
     match words_of(alloc, words) {
-        Ok(command) => run_command(alloc, command, input, coins, out),
+        Ok(command) => run_command(rt, alloc, command, input, coins, gate, out),
         Err(WordsError::Usage) => Status::Usage,
         Err(WordsError::NoMemory) => Status::NoMemory,
     }
 }
 
 // Does what a command asks for.
-fn run_command<S: Source, C: Source, K: Sink>(
+fn run_command<R: Threads + Sync, S: Source, C: Source, K: Sink, G: Gate>(
+    rt: &R,
     alloc: Global,
     command: Command,
     input: &mut S,
     coins: &mut C,
+    gate: &G,
     out: &mut K,
 ) -> Status
-    requires { HasThresholds command }
+    requires { HasGoodOptions command }
     ensures usage { result ≢ Status.Usage }
     ensures done { result ≡ Status.Done
         → (text : List ℕ) × IsOutput command (seen S.left S.faults input.old input.new) (seen C.left C.faults coins.old coins.new) text
@@ -129,20 +134,22 @@ fn run_command<S: Source, C: Source, K: Sink>(
     ensures coins_later { C.faults coins.old ≤ C.faults coins.new }
     ensures out_later { K.faults out.old ≤ K.faults out.new }
 {
-    match answer_of(alloc, command, input, coins) {
+    match answer_of(rt, alloc, command, input, coins, gate) {
         Ok(text) => tell(out, &text),
         Err(status) => status,
     }
 }
 
 // The output of a command, or why there is none.
-fn answer_of<S: Source, C: Source>(
+fn answer_of<R: Threads + Sync, S: Source, C: Source, G: Gate>(
+    rt: &R,
     alloc: Global,
     command: Command,
     input: &mut S,
     coins: &mut C,
+    gate: &G,
 ) -> Result<Vec<u8>, Status>
-    requires { HasThresholds command }
+    requires { HasGoodOptions command }
     ensures output { IfOk result (Makes command
         (seen S.left S.faults input.old input.new) (seen C.left C.faults coins.old coins.new)) }
     ensures reason { IfErr result (Reason command
@@ -155,12 +162,21 @@ fn answer_of<S: Source, C: Source>(
 {
     match command {
         Command::Check => check_output(alloc, input),
+        Command::Reveal { epoch, workers } => {
+            reveal_output(rt, alloc, epoch, workers, input, gate)
+        }
         Command::Make {
             epoch,
             version,
             thresholds,
             seed,
         } => make_output(alloc, epoch, version, &thresholds, seed, input, coins),
+        Command::Gen {
+            number,
+            reports,
+            liars,
+            workers,
+        } => gen_output(rt, alloc, number, reports, liars, workers, gate),
         Command::SelfTest => self_test_output(alloc),
     }
 }

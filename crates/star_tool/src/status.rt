@@ -3,7 +3,7 @@ ghost use Rattle.std.specs.Prelude.{◌≡◌, ◌++◌, IfOk, codes};
 ghost use Rattle.std.specs.Fmt.{decimal};
 ghost use Rattle.star_tool.specs.Status.{number_of, line_of};
 
-use crate::verbs::{check, make, self_test};
+use crate::verbs::{check, generate, make, reveal, self_test};
 use client_table::TableError;
 use star_io::{InputError, NoMemory};
 use star_vectors::SelfTestError;
@@ -148,9 +148,11 @@ fn usage_line(alloc: Global) -> Result<Vec<u8>, NoMemory>
     let mut line = String::new(alloc);
     write!(
         line,
-        "usage: star_tool {} | {} | {}\n",
+        "usage: star_tool {} | {} | {} | {} | {}\n",
         check::USAGE,
+        reveal::USAGE,
         make::USAGE,
+        generate::USAGE,
         self_test::USAGE
     )?;
     Ok(line.into_bytes())

@@ -220,7 +220,7 @@ fn faulty_words_touch_nothing(rt: HostRuntime) -> Result<(), Fail> {
         &["selftests"],
         &["Check"],
         &[""],
-        &["reveal", "--epoch", "7"],
+        &["reveal", "--epoch", "7", "--"],
         &["make"],
         &["make", "--epoch", "1", "--thresholds", "2,1"],
         &["make", "--epoch", "1", "--thresholds", "2,,2"],
@@ -298,7 +298,7 @@ fn each_status_has_its_number_and_line(rt: HostRuntime) -> Result<(), Fail> {
         (
             Status::Usage,
             2,
-            "usage: star_tool check | make --epoch E --thresholds K,.. [--seed HEX] [--version V] | selftest\n",
+            "usage: star_tool check | reveal --epoch E [--workers W] | make --epoch E --thresholds K,.. [--seed HEX] [--version V] | gen --number N --reports R --liars L [--workers W] | selftest\n",
         ),
         (Status::ReadFault, 3, "read fault\n"),
         (Status::WriteFault, 4, "write fault\n"),

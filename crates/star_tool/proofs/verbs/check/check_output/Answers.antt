@@ -3,14 +3,15 @@ use Rattle.command_words.specs.declared.command.Command.TheVariants.{Check}
 use Rattle.star_tool.specs.Seen.{seen, unseen}
 use Rattle.star_tool.specs.CheckText.{check_text_of}
 use Rattle.star_tool.proofs.Reasons.{of_error, read_reason}
-use Rattle.star_tool.proofs.CheckLemmas.{check_made, check_refused}
+use Rattle.star_tool.proofs.CheckLemmas.{check_made}
+use Rattle.star_tool.proofs.StreamLemmas.{stream_refused}
 use Rattle.star_tool.proofs.verbs.check.check_output.Goals as goal
 
 pub returns-in_err-records-clause-reason : goal.returns-in_err-records-clause-reason
 returns-in_err-records-clause-reason g c =
     of_error _ _ _ c.from_residual.ensures.1
     (read_reason Check _ unseen c.in_err-records.field-0.0 refl (λ is. c.in_err-records.ensures.read (ap (λ e. Err e) is))
-    (λ is. check_refused (seen g.S.Source.left g.S.Source.faults c.args.input.now c.read_records.new.input) (c.in_err-records.ensures.too_many (ap (λ e. Err e) is))))
+    (λ is. stream_refused (seen g.S.Source.left g.S.Source.faults c.args.input.now c.read_records.new.input) (c.in_err-records.ensures.too_many (ap (λ e. Err e) is))))
 
 pub returns-clause-output : goal.returns-clause-output
 returns-clause-output g c = λ coins.
