@@ -56,7 +56,7 @@ times() {
     printf "%.0s$2" $(seq "$1")
 }
 
-usage='usage: star_tool check | make --epoch E --thresholds K,.. [--seed HEX] [--version V] | selftest'
+usage='usage: star_tool check | reveal --epoch E [--workers W] | make --epoch E --thresholds K,.. [--seed HEX] [--version V] | gen --number N --reports R --liars L [--workers W] | selftest'
 none='records=0 good=0 refused=0'
 seed=--seed=0000000000000000000000000000000000000000000000000000000000000000
 pair="make --epoch 1 --thresholds 2,2"
@@ -73,7 +73,9 @@ for words in "look" "check x" "selftest x" "make" "make --epoch 1" "make --thres
     "$pair --help" "make --epoch 4294967296 --thresholds 2" "make --epoch +1 --thresholds 2" "make --epoch 1 --thresholds 2,1" \
     "make --epoch 1 --thresholds 2,,2" "make --epoch 1 --thresholds 513" "make --epoch 1 --thresholds $(times 8 2,)2" \
     "make --epoch 1 --thresholds 4097 --version 2" "make --epoch 1 --version 2 --thresholds $(times 16 2,)2" \
-    "$pair --version 3" "$pair --version 01" "$pair --version" "make --epoch --thresholds 2" "--epoch 1 make"; do
+    "$pair --version 3" "$pair --version 01" "$pair --version" "make --epoch --thresholds 2" "--epoch 1 make" \
+    "reveal" "reveal --workers 2" "reveal --epoch 7 --epoch 7" "reveal --epoch=7 --workers 65" "reveal --epoch +7" "reveal --epoch 4294967296" "reveal --epoch 7 --" \
+    "gen" "gen --number 7 --reports 0 --liars 0" "gen --number 7 --reports 65537 --liars 0" "gen --number 7 --reports 1 --liars 101"; do
     run $words </dev/null
     wanted "$words" 2 "" "$usage"
 done
@@ -153,6 +155,33 @@ head -c 134217728 /dev/zero | run $pair
 wanted "as many bytes as a table may have" 7 "" "bad table: row 0 column 0"
 head -c 134217729 /dev/zero | run $pair
 wanted "a byte more than a table may have" 5 "" "too many"
+
+# reveal. The lines are those that docs/FORMATS.md states, as an implementation in Python prints them.
+shut='records=0 rows=0 refused=0'
+faults=$(printf 'refused 4 outer Share\nrefused 5 outer TooLong\nrefused 6 outer Truncated\nrefused 7 outer CutRecord')
+run reveal --epoch 7 </dev/null
+wanted "an empty stream to reveal" 0 "$shut" ""
+for workers in 1 2 7 64; do
+    run reveal --epoch 7 --workers "$workers" <examples/reports.stream
+    wanted "the example to reveal, $workers workers" 0 "$(printf 'open DE~2 points=2 agree=2 members=2\nlevel 0 opened=1 few=2 noline=0 badvalue=0\nlevel 1 opened=0 few=2 noline=0 badvalue=0\n%s\nrecords=8 rows=4 refused=4' "$faults")" ""
+done
+run reveal --epoch=8 <examples/reports.stream
+wanted "the example in another epoch" 0 "$(printf 'refused %s outer WrongEpoch\n' 0 1 2 3; printf '%s\nrecords=8 rows=0 refused=8' "$faults")" ""
+"$program" make --epoch 7 --thresholds 3,2 <examples/cities.csv | run reveal --epoch 7
+wanted "make and reveal" 0 "$(printf 'open DE~3 points=3 agree=3 members=3\nopen DE~3/Berlin~2 points=2 agree=2 members=2\nlevel 0 opened=1 few=2 noline=0 badvalue=0\nlevel 1 opened=1 few=1 noline=0 badvalue=0\nrecords=6 rows=6 refused=0')" ""
+run reveal --epoch 7 </
+wanted "a folder as standard input of reveal" 3 "" "read fault"
+told reveal --epoch 7 </dev/null >/dev/full
+wanted "a full disk as standard output of reveal" 4 "" "write fault"
+head -c 524289 /dev/zero | run reveal --epoch 7
+wanted "a byte more to reveal" 5 "" "too many"
+head -c 524288 /dev/zero | run reveal --epoch 7
+only_last_line
+wanted "131,072 records to reveal" 0 "records=131072 rows=0 refused=131072" ""
+
+# gen. The digest is that of the text that two other programs print of this stream.
+run gen --number 7 --reports 20000 --liars 10 <&-
+wanted "a stream for trials" 0 "$(printf 'level 0 opened=20 few=0 noline=0 badvalue=0\nlevel 1 opened=190 few=10 noline=0 badvalue=0\nrecords=20000 rows=20000 refused=0\ntext=76981216faef6fb79411b523a3216cd0a1d3d85b182f03c55bdc8086412e84f6')" ""
 
 echo "$passed passed, $failed failed"
 [ "$failed" -eq 0 ]
