@@ -7,7 +7,6 @@ use Rattle.adss_commit.specs.declared.context.Context.{Context}
 use Rattle.adss_commit.specs.Derivation.{context_key}
 use Rattle.tag_groups.specs.RowView.{RowView}
 use Rattle.tag_groups.specs.GroupView.{GroupView}
-use Rattle.tag_groups.specs.Keys.{HasThreshold}
 use Rattle.tag_groups.specs.Laws.{rows_at}
 use Rattle.tag_groups.specs.Left.{points_at, points_left_of}
 use Rattle.layer_walk.specs.declared.auxiliary.Aux.{Aux}
