@@ -1,5 +1,6 @@
 pub mod ByteLists
 mod Calls
+pub mod FrontLaws
 mod KnownBytes
 mod NextRecord
 pub mod RecordListLaws

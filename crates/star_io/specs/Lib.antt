@@ -1,5 +1,6 @@
 pub mod Bytes
 pub mod Faults
+pub mod Fronts
 pub mod MemorySink
 pub mod MemorySource
 pub mod Reading

@@ -1,9 +1,11 @@
 //! Laws of records: a list of bytes is the spelling of one list of records, whoever reads it.
 //!
 //! Each function does nothing, and its clause is the law. The proofs are those of
-//! `proofs/RecordLaws.antt` and `proofs/RecordListLaws.antt`, which other proofs can cite.
-ghost use Rattle.std.specs.Prelude.{◌≡◌, ◌↔◌, ℕ, ◌<◌, ◌≤◌, List, [], ◌∷◌, ◌++◌, length};
+//! `proofs/RecordLaws.antt`, `proofs/RecordListLaws.antt` and `proofs/FrontLaws.antt`, which other
+//! proofs can cite.
+ghost use Rattle.std.specs.Prelude.{◌≡◌, ◌↔◌, ℕ, ◌<◌, ◌≤◌, List, [], ◌∷◌, ◌++◌, length, drop};
 ghost use Rattle.star_io.specs.Bytes.{AreBytes};
+ghost use Rattle.star_io.specs.Fronts.{ended_within, spelled, cut_record};
 ghost use Rattle.star_io.specs.RecordLists.{stream_records, rest_after, stream_of, whole, AreShort, HasMoreThan};
 ghost use Rattle.star_io.specs.Records.{AreRecords, BeginAll, Begins, HasOneList};
 ghost use Rattle.star_io.specs.declared.record.Record.{Record};
@@ -60,6 +62,14 @@ pub fn rest_by_function()
 pub fn more_by_function()
     ensures { (n : ℕ) (bytes : List ℕ) → AreBytes bytes →
         HasMoreThan n bytes ↔ (0 < length (rest_after n bytes)) }
+{}
+
+/// The records of the front of a stream are those of the whole whose spellings end within it, and
+/// one cut record follows exactly where these don't make up all of the front.
+pub fn records_of_front()
+    ensures { (front more : List ℕ) → AreBytes (front ++ more) →
+        let kept = ended_within (length front) (stream_records (front ++ more)) in
+        stream_records front ≡ kept ++ cut_record (drop (spelled kept) front) }
 {}
 
 /// Whole records are spelled by their stream, and by nothing else.
