@@ -1,13 +1,14 @@
 -- The parts of a frame, and what follows for a call that answers what its bytes decode to.
-use Rattle.std.proofs.Common.{◌≡◌, ℕ, ◌-◌, List, length, take, None, Result, Ok, Err, ap, ◌∙◌}
+use Rattle.std.proofs.Common.{◌≡◌, ℕ, ◌-◌, ◌<◌, ◌^◌, List, length, take, None, Result, Ok, Err, refl, ap, ◌∙◌, arith, inl, inr, length-append}
 use Rattle.std.specs.Prelude.{IsOkAnd, IfErr, IsErrOf}
+use Rattle.std.proofs.lemmas.Bool.{cases_lt}
 use Rattle.star_io.specs.Bytes.{AreBytes}
-use Rattle.report_frame.specs.declared.limits.TheConstants.{SEAL_BYTES}
+use Rattle.report_frame.specs.declared.limits.TheConstants.{SEAL_BYTES, MAX_FRAME_TWO}
 use Rattle.report_frame.specs.declared.fault.FaultKind.{FaultKind}
 use Rattle.report_frame.specs.declared.fault.Fault.{Fault}
 use Rattle.report_frame.specs.declared.parts.Parts.{Parts}
 use Rattle.report_frame.specs.declared.view.FrameView.{FrameView}
-use Rattle.report_frame.specs.Format.{Entry}
+use Rattle.report_frame.specs.Format.{Entry, spelling}
 use Rattle.report_frame.specs.Frame.{Fields, IsFrame, FaultAt, entries, frame}
 use Rattle.report_frame.specs.Reading.{◌>>=◌, Gives, read, passed_limit, decoded, fields_from}
 use Rattle.report_frame.specs.Parts.{fields_of_parts, ViewsFrame}
@@ -28,6 +29,16 @@ pub views_frame : (bytes sealed : List ℕ) (p : Parts) → IsFrame (fields_of_p
 views_frame bytes sealed p of_p is = record { range = of_p.range; sealed_is = is ∙ sealed_part_of_frame (fields_of_parts p) bytes of_p }
 
 -- ---- the answer
+
+-- the place of a fault has four bytes
+pub fault_place : (bytes : List ℕ) (f : Fault) → AreBytes bytes → decoded bytes ≡ Err f → f.at < 2 ^ 32
+fault_place bytes f are_bytes is = elim ((decoded_fault bytes f are_bytes).0 is) [
+  | inl long ↦ elim long.1 [ inl two ↦ omega (arith, two.1) | inr one ↦ omega (arith, one.3) ]
+  | inr inside ↦ elim (cases_lt MAX_FRAME_TWO (length bytes)) [
+    | inl over ↦ absurd (inside.0 MAX_FRAME_TWO (inl (over, refl)))
+    | inr within ↦ omega (arith, within, inside.1.3, ap length inside.1.2, length-append (spelling frame inside.1.0) inside.1.1)
+  ]
+]
 
 -- a frame is answered by its report
 pub only_given : (bytes : List ℕ) (result : Result FrameView Fault) → Gives fields_of result (decoded bytes) → (r : Fields) → IsFrame r bytes → IsOkAnd result (λ v. fields_of v ≡ r)

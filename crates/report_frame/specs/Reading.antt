@@ -5,6 +5,8 @@ use Rattle.report_frame.specs.declared.limits.TheConstants.{MAGIC, MAX_FRAME_ONE
 use Rattle.report_frame.specs.declared.fault.FaultKind.{FaultKind}
 use Rattle.report_frame.specs.declared.fault.FaultKind.TheVariants.{TooLong, Truncated, Trailing}
 use Rattle.report_frame.specs.declared.fault.Fault.{Fault}
+use Rattle.report_frame.specs.declared.fault.Misread.{Misread}
+use Rattle.report_frame.specs.Misread.{fault_of}
 use Rattle.report_frame.specs.declared.version.Version.TheVariants.{One}
 use Rattle.report_frame.specs.Versions.{version_number, version_of}
 use Rattle.report_frame.specs.Format.{Size, Format, Entry, bytes_of, number_of, spelling}
@@ -21,6 +23,11 @@ abbrev pub ◌>>=◌ : {A B : Type 0} → Result A Fault → (A → Result B Fau
 abbrev pub Gives : {X Y : Type 0} → (X → Y) → Result X Fault → Result Y Fault → Type 0
 Gives view (Ok x) read = read ≡ Ok (view x)
 Gives view (Err e) read = read ≡ Err e
+
+-- The same of a call whose fault isn't told yet.
+abbrev pub Reads : {X Y : Type 0} → (X → Y) → Result X Misread → Result Y Fault → Type 0
+Reads view (Ok x) read = read ≡ Ok (view x)
+Reads view (Err e) read = read ≡ Err (fault_of e)
 
 -- the number at this place, and the bytes after it
 abbrev pub number_at : Size → FaultKind → ℕ → ℕ → ℕ → List ℕ → Result (ℕ × List ℕ) Fault

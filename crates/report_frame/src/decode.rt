@@ -32,7 +32,10 @@ pub fn decode_view(bytes: &[u8]) -> Result<FrameView<'_>, Fault>
             at,
         });
     }
-    let parts = read_frame(bytes)?;
+    let parts = match read_frame(bytes) {
+        Ok(parts) => parts,
+        Err(misread) => return Err(misread.fault()),
+    };
     let (sealed, _) = bytes.split_at(bytes.len() - SEAL_BYTES);
     Ok(FrameView { parts, sealed })
 }

@@ -1,5 +1,6 @@
-ghost use Rattle.std.specs.Prelude.{◌≡◌, Some};
+ghost use Rattle.std.specs.Prelude.{◌≡◌, ◌<◌, ◌^◌, Some};
 ghost use Rattle.report_frame.specs.Names.{name_of};
+ghost use Rattle.report_frame.specs.Misread.{fault_of};
 
 use std::fmt;
 
@@ -66,4 +67,25 @@ pub struct Fault {
     /// Where the faulty field starts, in bytes from the front. For `TooLong` it is the most bytes
     /// of a frame, and for `Trailing` where the frame ends.
     pub at: u32,
+}
+
+/// A fault while a frame is read. Its place is as wide as a length, so that a result of it and one of
+/// slices lie in memory alike: with a `Fault` in its place each field waits for the one before.
+#[derive(Clone, Copy)]
+pub(crate) struct Misread {
+    pub(crate) kind: FaultKind,
+    pub(crate) at: usize,
+}
+
+impl Misread {
+    /// The fault.
+    pub(crate) fn fault(self) -> Fault
+        requires { self.at < 2 ^ 32 }
+        ensures { result ≡ fault_of self }
+    {
+        Fault {
+            kind: self.kind,
+            at: self.at as u32,
+        }
+    }
 }

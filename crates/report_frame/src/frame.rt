@@ -1,10 +1,10 @@
 // Reading the fields of a frame.
 ghost use Rattle.std.specs.Prelude.{◌≡◌, IfOk};
 ghost use Rattle.report_frame.specs.Frame.{entries, frame, back};
-ghost use Rattle.report_frame.specs.Reading.{Gives, read};
+ghost use Rattle.report_frame.specs.Reading.{Reads, read};
 ghost use Rattle.report_frame.specs.Parts.{fields_of_parts, back_entries};
 
-use crate::fault::{Fault, FaultKind};
+use crate::fault::{FaultKind, Misread};
 use crate::fields::{
     read_array, read_bytes, read_element, read_end, read_u8, read_u16, read_u32, read_version,
     skip_magic,
@@ -18,8 +18,8 @@ use crate::places::{
 
 /// The fields of a frame, or the first fault, whatever its length.
 #[tactic(auto, unfolding(crate::specs::Reading::read))]
-pub(crate) fn read_frame(bytes: &[u8]) -> Result<Parts<'_>, Fault>
-    ensures { Gives (λ p. entries (fields_of_parts p)) result (read frame 0 bytes.now) }
+pub(crate) fn read_frame(bytes: &[u8]) -> Result<Parts<'_>, Misread>
+    ensures { Reads (λ p. entries (fields_of_parts p)) result (read frame 0 bytes.now) }
 {
     let rest = skip_magic(bytes)?;
     let (version, rest) = read_version(rest)?;
@@ -56,8 +56,8 @@ pub(crate) fn read_frame(bytes: &[u8]) -> Result<Parts<'_>, Fault>
 
 // The fields from the box on.
 #[tactic(auto, unfolding(crate::specs::Reading::read))]
-fn read_back<'a>(front: Front<'a>, bytes: &'a [u8]) -> Result<Parts<'a>, Fault>
-    ensures back { Gives back_entries result (read back BOX_LENGTH_AT bytes.now) }
+fn read_back<'a>(front: Front<'a>, bytes: &'a [u8]) -> Result<Parts<'a>, Misread>
+    ensures back { Reads back_entries result (read back BOX_LENGTH_AT bytes.now) }
     ensures front { IfOk result (λ p. p.front ≡ front.entry) }
 {
     let (size, rest) = read_u8(
@@ -68,15 +68,15 @@ fn read_back<'a>(front: Front<'a>, bytes: &'a [u8]) -> Result<Parts<'a>, Fault>
         MAX_VALUE as u8,
     )?;
     let (boxed, rest) = read_bytes(rest, BOX_AT, size as usize)?;
-    let at = BOX_AT + u32::from(size);
+    let at = BOX_AT + usize::from(size);
     let (nonce, rest) = read_array::<NONCE_BYTES>(rest, at)?;
-    let at = at + NONCE_BYTES as u32;
+    let at = at + NONCE_BYTES;
     let (size, rest) = read_u16(rest, at, FaultKind::BodyLength, 1, u16::MAX)?;
     let at = at + 2;
     let (body, rest) = read_bytes(rest, at, size as usize)?;
-    let at = at + u32::from(size);
+    let at = at + usize::from(size);
     let (seal, rest) = read_array::<SEAL_BYTES>(rest, at)?;
-    read_end(rest, at + SEAL_BYTES as u32)?;
+    read_end(rest, at + SEAL_BYTES)?;
     Ok(Parts {
         front,
         boxed,
