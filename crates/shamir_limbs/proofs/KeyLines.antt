@@ -69,6 +69,20 @@ recovered_from_line f0 f1 f2 q0 q1 q2 points k (Some r) same found from line = r
   agree = from.agree ∙ agreement_of_all-same f0 f1 f2 q0 q1 q2 points same;
 }
 
+-- polynomials with the coefficients of a key line are one
+pub key_line_same : (q0 q1 q2 r0 r1 r2 : List ℕ) (points : List Point) (k : ℕ) → AreSame q0 q1 q2 r0 r1 r2 → AreElements r0 × AreElements r1 × AreElements r2
+    → IsKeyLine q0 q1 q2 points k → IsKeyLine r0 r1 r2 points k
+key_line_same q0 q1 q2 r0 r1 r2 points k same elements line = record {
+  elements = elements;
+  below = (
+    (λ i past. sym (same.0 i) ∙ line.below.0 i past),
+    (λ i past. sym (same.1 i) ∙ line.below.1 i past),
+    (λ i past. sym (same.2 i) ∙ line.below.2 i past),
+  );
+  limbs = subst AreLimbs (values_at_zero-same q0 q1 q2 r0 r1 r2 same) line.limbs;
+  agrees = omega (arith, line.agrees, agreement_of_all-same q0 q1 q2 r0 r1 r2 points same);
+}
+
 -- three decoded polynomials that give something are a key line
 line_of_decoded : (f0 f1 f2 : List ℕ) (points : List Point) (k : ℕ)
     → IsDecoded f0 (xs_of points) (ys_of points 0) k → IsDecoded f1 (xs_of points) (ys_of points 1) k → IsDecoded f2 (xs_of points) (ys_of points 2) k
@@ -80,14 +94,19 @@ line_of_decoded f0 f1 f2 points k first second third enough = record {
   agrees = enough.1;
 }
 
-pub line_from_decoded : (f0 f1 f2 : List ℕ) (points : List Point) (k : ℕ) (o : Option Recovered)
+pub line_if_found : (f0 f1 f2 : List ℕ) (points : List Point) (k : ℕ) (o : Option Recovered)
     → IsDecoded f0 (xs_of points) (ys_of points 0) k → IsDecoded f1 (xs_of points) (ys_of points 1) k → IsDecoded f2 (xs_of points) (ys_of points 2) k
     → (IsSome o ↔ (AreLimbs (values_at_zero f0 f1 f2) × (length points + k ≤ 2 * agreement_of_all f0 f1 f2 points)))
-    → IfSome o (λ r. IsRecoveredFrom r f0 f1 f2 points)
+    → IfSome o (λ r. IsKeyLine f0 f1 f2 points k)
+line_if_found f0 f1 f2 points k None first second third found = tt
+line_if_found f0 f1 f2 points k (Some r) first second third found = line_of_decoded f0 f1 f2 points k first second third (found.0 refl)
+
+-- what is recovered from a key line is recovered from some key line
+pub some_line : (f0 f1 f2 : List ℕ) (points : List Point) (k : ℕ) (o : Option Recovered)
+    → IfSome o (λ r. IsKeyLine f0 f1 f2 points k) → IfSome o (λ r. IsRecoveredFrom r f0 f1 f2 points)
     → IfSome o (λ r. (q0 : List ℕ) × (q1 : List ℕ) × (q2 : List ℕ) × IsKeyLine q0 q1 q2 points k × IsRecoveredFrom r q0 q1 q2 points)
-line_from_decoded f0 f1 f2 points k None first second third found from = tt
-line_from_decoded f0 f1 f2 points k (Some r) first second third found from =
-    (f0, f1, f2, line_of_decoded f0 f1 f2 points k first second third (found.0 refl), from)
+some_line f0 f1 f2 points k None line from = tt
+some_line f0 f1 f2 points k (Some r) line from = (f0, f1, f2, line, from)
 
 -- the same of polynomials through the first k points
 pub short_line_from_decoded : (f0 f1 f2 : List ℕ) (points : List Point) (k : ℕ) (o : Option Recovered)

@@ -1,5 +1,6 @@
-mod KeyLines
+pub mod KeyLines
 pub mod LimbLaws
+pub mod LineNumbers
 pub mod LineSearch
 pub mod LowBytes
 mod OnAll

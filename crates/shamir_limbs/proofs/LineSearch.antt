@@ -25,7 +25,7 @@ pub record HaveCoefficientsBelow (p k : ℕ) (q : Triple) : Type 0 where
   pub third : HasCoefficientsBelow p k q.third
 
 -- each triple of the search is three such polynomials
-All-triples_below : (p k : ℕ) → All (HaveCoefficientsBelow p k) (triples_below p k)
+pub All-triples_below : (p k : ℕ) → All (HaveCoefficientsBelow p k) (triples_below p k)
 unfolding triples_below
 All-triples_below p k =
     let all : List (List ℕ) = polynomials_below p k in
@@ -52,7 +52,7 @@ AreLimbs-are_limbs : (numbers : List ℕ) → AreLimbs numbers → are_limbs num
 AreLimbs-are_limbs numbers is = and_from _ _ (lt-ltb _ _ is.0) (and_from _ _ (lt-ltb _ _ is.1) (lt-ltb _ _ is.2))
 
 -- what passes the test is a key line
-is_key_line-line : (points : List Point) (k : ℕ) (q : Triple) → HaveCoefficientsBelow MODULUS k q → is_key_line points k q ≡ true → IsKeyLine q.first q.second q.third points k
+pub is_key_line-line : (points : List Point) (k : ℕ) (q : Triple) → HaveCoefficientsBelow MODULUS k q → is_key_line points k q ≡ true → IsKeyLine q.first q.second q.third points k
 is_key_line-line points k q has passes =
     let parts = and_parts _ _ passes in
     record {

@@ -2,3 +2,4 @@ pub mod Coefficients
 pub mod KeyLine
 pub mod Limbs
 pub mod Search
+pub mod Numbers

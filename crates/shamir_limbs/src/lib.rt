@@ -13,7 +13,7 @@ mod share;
 pub use coefficients::Coefficients;
 pub use key::{Key, key_of, limbs_of};
 pub use key_work::KeyWork;
-pub use recovery::{Recovered, recover, recover_short};
+pub use recovery::{KeyLine, Recovered, recover, recover_line, recover_short};
 pub use share::{Point, share_at};
 
 #[cfg(test)]

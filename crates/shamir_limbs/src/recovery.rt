@@ -1,11 +1,13 @@
 ghost use Rattle.std.specs.Prelude.{◌≡◌, ℕ, ◌+◌, ◌*◌, ◌^◌, ◌<◌, ◌≤◌, ◌↔◌, List, length, IsSome, IfSome, IsSomeAnd};
+ghost use Rattle.std.specs.Option.{option_map};
 ghost use Rattle.poly61.specs.Poly.{AreDistinct};
 ghost use Rattle.shamir_limbs.specs.Limbs.{IsKey, AreLimbs};
 ghost use Rattle.shamir_limbs.specs.KeyLine.{xs_of, is_on_all, agreement_of_all, values_at_zero, IsKeyLine, IsShortKeyLine, IsRecoveredFrom};
-ghost use Rattle.shamir_limbs.specs.Search.{key_line_of};
+ghost use Rattle.shamir_limbs.specs.Search.{key_line_of, recovered_from};
 
 use crate::key::{Key, key_of};
 use crate::key_work::KeyWork;
+use crate::limb_work::LimbWork;
 use crate::share::Point;
 use field61::Fe;
 use poly61::Poly;
@@ -15,6 +17,15 @@ use poly61::Poly;
 pub struct Recovered {
     pub key: Key,
     pub agree: u32,
+}
+
+/// A key that was recovered, and its three polynomials.
+#[derive(Drop)]
+pub struct KeyLine {
+    pub found: Recovered,
+    pub first: Poly,
+    pub second: Poly,
+    pub third: Poly,
 }
 
 /// Finds the key whose limbs are the values at 0 of three polynomials of degree below k, where at
@@ -32,17 +43,84 @@ pub fn recover(work: &mut KeyWork, points: &[Point], k: usize) -> Option<Recover
         → IsSomeAnd result (λ r. IsRecoveredFrom r q0 q1 q2 points.now) }
     ensures line { result ≡ key_line_of points.now k }
 {
-    let limbs = &mut work.limbs;
-    if !limbs.decode(points, 0, k, &mut work.first) {
+    find_line(
+        &mut work.limbs,
+        points,
+        k,
+        &mut work.first,
+        &mut work.second,
+        &mut work.third,
+    )
+}
+
+/// Finds what [`recover`] finds, and hands the three polynomials back, each in the room that the work
+/// had for it. Takes no memory.
+pub fn recover_line(mut work: KeyWork, points: &[Point], k: usize) -> Option<KeyLine>
+    requires distinct { AreDistinct (xs_of points.now) }
+    requires some { 1 ≤ k }
+    requires threshold { k ≤ length points.now }
+    requires work { length points.now ≤ work }
+    requires points { length points.now < 2 ^ 32 }
+    ensures found { option_map (λ line. line.found) result ≡ key_line_of points.now k }
+    ensures line { IfSome result (λ line. IsKeyLine line.first line.second line.third points.now k) }
+    ensures from { IfSome result (λ line. line.found ≡ recovered_from line.first line.second line.third points.now) }
+    ensures room { IfSome result (λ line. (length line.first ≡ work) × (length line.second ≡ work) × (length line.third ≡ work)) }
+{
+    let found = find_line(
+        &mut work.limbs,
+        points,
+        k,
+        &mut work.first,
+        &mut work.second,
+        &mut work.third,
+    )?;
+    let KeyWork {
+        first,
+        second,
+        third,
+        ..
+    } = work;
+    Some(KeyLine {
+        found,
+        first,
+        second,
+        third,
+    })
+}
+
+// Makes the polynomials those of the key.
+fn find_line(
+    limbs: &mut LimbWork,
+    points: &[Point],
+    k: usize,
+    first: &mut Poly,
+    second: &mut Poly,
+    third: &mut Poly,
+) -> Option<Recovered>
+    requires distinct { AreDistinct (xs_of points.now) }
+    requires some { 1 ≤ k }
+    requires threshold { k ≤ length points.now }
+    requires work { length points.now ≤ limbs.old }
+    requires room { (k ≤ length first.old) × (k ≤ length second.old) × (k ≤ length third.old) }
+    requires points { length points.now < 2 ^ 32 }
+    ensures work { limbs.new ≡ limbs.old }
+    ensures room { (length first.new ≡ length first.old) × (length second.new ≡ length second.old) × (length third.new ≡ length third.old) }
+    ensures line { IfSome result (λ r. IsKeyLine first.new second.new third.new points.now k) }
+    ensures from { IfSome result (λ r. IsRecoveredFrom r first.new second.new third.new points.now) }
+    ensures key { IfSome result (λ r. IsKey r.key.bytes) }
+    ensures only { (q0 q1 q2 : List ℕ) → IsKeyLine q0 q1 q2 points.now k
+        → IsSomeAnd result (λ r. IsRecoveredFrom r q0 q1 q2 points.now) }
+{
+    if !limbs.decode(points, 0, k, first) {
         return None;
     }
-    if !limbs.decode_near(&work.first, points, 1, k, &mut work.second) {
+    if !limbs.decode_near(first, points, 1, k, second) {
         return None;
     }
-    if !limbs.decode_near(&work.first, points, 2, k, &mut work.third) {
+    if !limbs.decode_near(first, points, 2, k, third) {
         return None;
     }
-    key_through(&work.first, &work.second, &work.third, points, k)
+    key_through(first, second, third, points, k)
 }
 
 /// Tries the three polynomials of degree below k through the first k points alone: gives the key

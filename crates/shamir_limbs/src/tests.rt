@@ -138,3 +138,32 @@ fn the_key_of_the_first_points(rt: HostRuntime) -> Result<(), NoMemory> {
     assert_eq!(rt; recover_short(&mut work, &apart, 2), None);
     Ok(())
 }
+
+// Where a key is recovered its polynomials are handed back: here 2x + 3, x + 1 and 5.
+#[test]
+fn the_polynomials_of_a_key(rt: HostRuntime) -> Result<(), NoMemory> {
+    let points = [
+        point(1, [6, 2, 5]),
+        point(2, [7, 3, 5]),
+        point(3, [9, 4, 5]),
+        point(4, [11, 5, 5]),
+    ];
+    let work = KeyWork::new(rt.alloc(), 4)?;
+    let Some(line) = recover_line(work, &points, 2) else {
+        assert!(rt; false, "there is a key");
+        return Ok(());
+    };
+    let KeyLine {
+        found,
+        first,
+        second,
+        third,
+    } = line;
+    let lowest = [first, second, third].map(|f| [
+        f.coefficient(0).value(),
+        f.coefficient(1).value(),
+    ]);
+    assert_eq!(rt; lowest, [[3, 2], [1, 1], [5, 0]]);
+    assert_eq!(rt; found.agree, 3);
+    Ok(())
+}
