@@ -3,3 +3,4 @@ pub mod Keystreams
 mod Opening
 mod Spelt
 pub mod Honest
+mod Horner

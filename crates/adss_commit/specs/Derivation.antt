@@ -10,6 +10,7 @@ use Rattle.field61.specs.declared.TheConstants.{MODULUS}
 use Rattle.report_frame.specs.declared.version.Version.{Version}
 use Rattle.report_frame.specs.declared.version.Version.TheVariants.{One, Two}
 use Rattle.report_frame.specs.declared.head.Head.{Head}
+use Rattle.shamir_limbs.specs.Coefficients.{values}
 use Rattle.shamir_limbs.specs.Limbs.{limbs}
 use Rattle.shamir_limbs.specs.declared.key.Key.{Key}
 use Rattle.adss_commit.specs.declared.context.Context.{Context}
@@ -63,10 +64,18 @@ box_of version key value = xor_bytes value (keystream (box_key_of version key) z
 unfoldable pub field_number : List ℕ → ℕ → ℕ
 field_number key place = big_number 8 (keystream key zero_nonce 0 place 8) % 2 ^ 61 % MODULUS
 
+-- n coefficients of polynomial j by a coin key, from that of x^(start+1) on
+abbrev pub coefficients_from : List ℕ → ℕ → ℕ → ℕ → List ℕ
+coefficients_from key j start n = map (λ i. field_number key (8 * (3 * i + j))) (range_with_len start n)
+
+-- the values at x of the three polynomials with these coefficients alone, from the constant term on
+abbrev pub values_from : List ℕ → ℕ → ℕ → ℕ → List ℕ
+values_from key start n x =
+    values (coefficients_from key 0 start n ∷ coefficients_from key 1 start n ∷ coefficients_from key 2 start n ∷ []) x
+
 -- polynomial j: limb j of the key, and then the coefficients of x, x^2 and so on up to x^(k-1)
 unfoldable pub polynomial : Context → ℕ → List ℕ
-polynomial c j =
-    slice_index (limbs (context_key c)) j ∷ map (λ i. field_number (coin_key c) (8 * (3 * i + j))) (range_with_len 0 (c.k - 1))
+polynomial c j = slice_index (limbs (context_key c)) j ∷ coefficients_from (coin_key c) j 0 (c.k - 1)
 
 -- the three polynomials, whose values are the shares
 abbrev pub polynomials : Context → List (List ℕ)

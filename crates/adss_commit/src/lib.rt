@@ -7,11 +7,13 @@ mod hash;
 mod keys;
 pub mod laws;
 mod polynomials;
+mod share;
 
 pub use boxes::{box_value, open_value};
 pub use context::{Context, Derived, derive};
 pub use keys::{body_key, seal_key};
 pub use polynomials::{coefficients, coefficients_of};
+pub use share::share_of;
 
 #[cfg(test)]
 mod tests;

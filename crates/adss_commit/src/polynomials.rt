@@ -59,7 +59,7 @@ fn stream_bytes(alloc: Global, key: &[u8; 32], n: usize) -> Result<Vec<u8>, NoMe
 
 // The low 61 bits of the big-endian number at this place. The modulus, the one such number that is
 // no field element, counts as 0.
-fn number_at(bytes: &[u8], place: usize) -> Fe
+pub(crate) fn number_at(bytes: &[u8], place: usize) -> Fe
     requires { place + 8 ≤ length bytes.now }
     ensures { result ≡ big_number 8 (drop place bytes.now) % 2 ^ 61 % MODULUS }
 {

@@ -143,6 +143,7 @@ fn what_is_derived_from_contexts_of_both_versions(rt: HostRuntime) -> Result<(),
         assert_eq!(rt; made, fronts);
         let polynomials = coefficients(rt.alloc(), &context)?;
         assert_eq!(rt; share_at(&polynomials, x).map(Fe::value), y);
+        assert_eq!(rt; share_of(&context, &derived.key, x).map(Fe::value), y);
         let head = Head {
             version,
             k: context.k,
