@@ -52,7 +52,7 @@ inner_is i (Inner frame) inner h =
     let it = same_Some (let v : InnerView = record { index = i; frame = frame } in v) inner h in
     (ap (λ (v : InnerView). Inner v.frame) it, sym (ap (λ (v : InnerView). v.index) it))
 
-mapped_is : {X Y : Type 0} (f : X → Y) (o : Option X) (y : Y) → option_map f o ≡ Some y → (x : X) × (o ≡ Some x) × (f x ≡ y)
+pub mapped_is : {X Y : Type 0} (f : X → Y) (o : Option X) (y : Y) → option_map f o ≡ Some y → (x : X) × (o ≡ Some x) × (f x ≡ y)
 mapped_is f None y h = absurd (none-some y h)
 mapped_is f (Some x) y h = (x, refl, same_Some (f x) y h)
 

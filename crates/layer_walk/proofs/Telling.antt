@@ -17,31 +17,35 @@ use Rattle.layer_walk.specs.declared.revealed.OpenedGroup.{OpenedGroup}
 use Rattle.layer_walk.specs.Rows.{members, first_members}
 use Rattle.layer_walk.specs.Outcomes.{outcome_at}
 use Rattle.layer_walk.specs.Levels.{where_opened, path_with, opened_row, opened_at, counts_of, counts_at}
-use Rattle.layer_walk.specs.Outs.{IsOut}
+use Rattle.layer_walk.specs.Outs.{IsOut, group_points, group_outcome}
 use Rattle.layer_walk.specs.Made.{named_row, named, AreOuts, IsLevel, group_child}
 use Rattle.layer_walk.specs.Told.{told_under, told_groups, outcomes_of}
 use Rattle.layer_walk.proofs.Fits.{length-places_from}
 use Rattle.layer_walk.proofs.Making.{HasParent, mem, named_members, same_points, outcome_is, firsts_inside, firsts_zip, first_ones_named}
 
 -- the group as it is told, as an option
-abbrev told_option : Level → GroupView → ℕ → Outcome → Option OpenedGroup
+abbrev pub told_option : Level → GroupView → ℕ → Outcome → Option OpenedGroup
 told_option level g points outcome =
     where_opened (λ value agree. Some (record { path = (group_child level g value).path; points = points; agree = agree; members = length g.members })) outcome
 
-told_cons : (level : Level) (g : GroupView) (points : ℕ) (outcome : Outcome) (rest : List OpenedGroup) → told_under level g points outcome ++ rest ≡ cons_option (told_option level g points outcome) rest
+pub told_cons : (level : Level) (g : GroupView) (points : ℕ) (outcome : Outcome) (rest : List OpenedGroup) → told_under level g points outcome ++ rest ≡ cons_option (told_option level g points outcome) rest
 told_cons level g points (Opened value agree) rest = refl
 told_cons level g points Few rest = refl
 told_cons level g points NoLine rest = refl
 told_cons level g points BadValue rest = refl
 
 module _ (level : Level) (good : IsLevel level) where
-  group_told : (first : RowView) → HasParent level first → (out : GroupOut) → IsOut level (group_of level.rows first) out → told_option level (group_of level.rows first) out.points out.outcome ≡ opened_row level.epoch level.number (named level) (named_row level.parents first)
-  group_told first inside out is =
-      let outcome = is.outcome ∙ outcome_is level good first inside in
-      let points = is.points ∙ ap length (same_points level good first inside) in
+  -- and that is what its first member tells
+  pub group_told : (first : RowView) → HasParent level first → told_option level (group_of level.rows first) (length (group_points level (group_of level.rows first))) (group_outcome level (group_of level.rows first)) ≡ opened_row level.epoch level.number (named level) (named_row level.parents first)
+  group_told first inside =
+      let outcome = outcome_is level good first inside in
+      let points = ap length (same_points level good first inside) in
       let count : length (group_of level.rows first).members ≡ length (members (named level) (named_row level.parents first)) =
       length-places_from 0 (same_key first) level.rows ∙ sym (length-map (mem level good first inside) (named_row level.parents)) ∙ ap length (sym (named_members level good first inside)) in
       λ i. where_opened (λ value agree. Some (record { path = path_with (named_row level.parents first) value; points = points i; agree = agree; members = count i })) (outcome i)
+
+  out_told : (first : RowView) → HasParent level first → (out : GroupOut) → IsOut level (group_of level.rows first) out → told_option level (group_of level.rows first) out.points out.outcome ≡ opened_row level.epoch level.number (named level) (named_row level.parents first)
+  out_told first inside out is = (λ i. told_option level (group_of level.rows first) (is.points i) (is.outcome i)) ∙ group_told first inside
 
   firsts_told : (xs : List RowView) → All (HasParent level) xs → (outs : List GroupOut) → AllZip (IsOut level) (map (group_of level.rows) xs) outs → told_groups level (map (group_of level.rows) xs) outs ≡ filter_map (opened_row level.epoch level.number (named level)) (map (named_row level.parents) xs)
   firsts_told [] inside [] zip = refl
@@ -49,7 +53,7 @@ module _ (level : Level) (good : IsLevel level) where
   firsts_told (x ∷ xs) inside [] zip = absurd zip
   firsts_told (x ∷ xs) inside (o ∷ os) zip =
       told_cons level (group_of level.rows x) o.points o.outcome (told_groups level (map (group_of level.rows) xs) os)
-      ∙ (λ i. cons_option (group_told x (All-head (HasParent level) x xs inside) o zip.0 i) (firsts_told xs (All-tail (HasParent level) x xs inside) os zip.1 i))
+      ∙ (λ i. cons_option (out_told x (All-head (HasParent level) x xs inside) o zip.0 i) (firsts_told xs (All-tail (HasParent level) x xs inside) os zip.1 i))
 
   firsts_out : (xs : List RowView) → All (HasParent level) xs → (outs : List GroupOut) → AllZip (IsOut level) (map (group_of level.rows) xs) outs → outcomes_of outs ≡ map (outcome_at level.epoch level.number (named level)) (map (named_row level.parents) xs)
   firsts_out [] inside [] zip = refl

@@ -6,6 +6,7 @@ pub mod Levels
 pub mod Reveal
 pub mod Seen
 pub mod Outs
+pub mod Lines
 pub mod Held
 pub mod Made
 pub mod Kept

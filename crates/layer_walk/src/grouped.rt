@@ -9,9 +9,9 @@ use tag_groups::{Grouped, Grouper, Groups, Row};
 
 /// A level, and the groups of its rows.
 #[derive(Drop)]
-pub(crate) struct GroupedLevel {
-    pub(crate) level: Level,
-    pub(crate) groups: Groups,
+pub struct GroupedLevel {
+    pub level: Level,
+    pub groups: Groups,
 }
 
 /// The level of these rows. It takes no memory.
@@ -46,4 +46,20 @@ pub(crate) fn grouper_of(alloc: Global, rows: Vec<Row>) -> Result<Grouper, NoMem
         grouper.add(row)?;
     }
     Ok(grouper)
+}
+
+/// The level with the groups of its rows. Nothing is copied.
+pub fn group_level(alloc: Global, level: Level) -> Result<GroupedLevel, NoMemory>
+    requires { length level.rows < 2 ^ 32 }
+    ensures level { IfOk result (λ here. here.level ≡ level) }
+    ensures groups { IfOk result (λ here. here.groups ≡ groups_of level.rows) }
+{
+    let Level {
+        number,
+        epoch,
+        parents,
+        rows,
+    } = level;
+    let grouper = grouper_of(alloc, rows.into_vec())?;
+    Ok(with_groups(number, epoch, parents, grouper))
 }

@@ -30,10 +30,12 @@ mod tell;
 mod walk;
 
 pub use auxiliary::{Aux, Auxes};
-pub use group::{GroupOut, open_group};
+pub use group::{GroupLine, GroupOut, open_group, open_group_line};
+pub use grouped::{GroupedLevel, group_level};
 pub use inner::{Inner, Inners};
 pub use level::{Level, Parent, Parents, level_after, level_zero};
 pub use outcome::Outcome;
+pub use parents::group_path;
 pub use path::{MAX_STEPS, Path, Step};
 pub use refusal::{Refusal, Refusals, Stage, Why};
 pub use revealed::{LevelCount, LevelCounts, OpenedGroup, OpenedGroups, Revealed};

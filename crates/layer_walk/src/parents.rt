@@ -50,7 +50,7 @@ fn child(level: &Level, group: &Group, value: &Value) -> Parent
 }
 
 /// The path of the group, where it has this value. It takes no memory.
-pub(crate) fn group_path(level: &Level, group: &Group, value: &Value) -> Path
+pub fn group_path(level: &Level, group: &Group, value: &Value) -> Path
     requires parent { group.now.parent < length level.now.parents }
     requires room { length (parent_at level.now.parents group.now.parent).path < MAX_STEPS }
     ensures { result ≡ (group_child level.now group.now value.now).path }
