@@ -54,13 +54,7 @@ fn values_behind(key: &[u8; 32], powers: usize, x: Fe) -> [Fe; 3]
 }
 
 // The same from the first power of a block on, where `behind` has them from the next block on.
-fn values_from_block(
-    key: &[u8; 32],
-    block: usize,
-    powers: usize,
-    x: Fe,
-    behind: [Fe; 3],
-) -> [Fe; 3]
+fn values_from_block(key: &[u8; 32], block: usize, powers: usize, x: Fe, behind: [Fe; 3]) -> [Fe; 3]
     requires within { BLOCK_POWERS * block < powers }
     requires few { powers < MAX_THRESHOLD_TWO }
     requires behind { behind ≡ values_from key.now (BLOCK_POWERS * (block + 1)) (powers - BLOCK_POWERS * (block + 1)) x }
@@ -87,6 +81,11 @@ fn coins_of_block(key: &[u8; 32], block: usize, count: usize) -> [u8; BLOCK_BYTE
     ensures { take (POWER_BYTES * count) result ≡ keystream key.now zero_nonce 0 (BLOCK_BYTES * block) (POWER_BYTES * count) }
 {
     let mut coins = [0; BLOCK_BYTES];
-    xor_stream(key, &[0; 12], (BLOCK_BYTES / 64 * block) as u32, &mut coins[..POWER_BYTES * count]);
+    xor_stream(
+        key,
+        &[0; 12],
+        (BLOCK_BYTES / 64 * block) as u32,
+        &mut coins[..POWER_BYTES * count],
+    );
     coins
 }

@@ -18,14 +18,6 @@ use Rattle.adss_commit.specs.Derivation.{polynomial, polynomials, derived, box_o
 use Rattle.nest_client.specs.declared.client.Client.{Client}
 use Rattle.nest_client.specs.Report.{coins, point_of, nonce_of, layer, frame_of, sealed_by, share, plain_body, report_from}
 
--- zeros of which the first n became a keystream begin with it
-pub front_drawn : (key nonce : List ℕ) (n m : ℕ) (zeros new : List ℕ) → n ≤ m → zeros ≡ replicate m 0
-    → new ≡ xor_bytes (take n zeros) (keystream key nonce 0 0 (length (take n zeros))) → take n (new ++ drop n zeros) ≡ keystream key nonce 0 0 n
-front_drawn key nonce n m zeros new few are_zeros is =
-    let front : take n zeros ≡ replicate n 0 = ap (take n) are_zeros ∙ take-replicate n m 0 few in
-    let drawn : new ≡ keystream key nonce 0 0 n = keystream_from_zeros key nonce 0 n (take n zeros) new front is in
-    take_at new (drop n zeros) n (ap length drawn ∙ keystream_length key nonce 0 0 n) ∙ drawn
-
 -- a part of the keystream with which bytes begin
 pub part-of_keystream : (key nonce : List ℕ) (n from count : ℕ) (bytes : List ℕ) → from + count ≤ n → take n bytes ≡ keystream key nonce 0 0 n
     → slice_range bytes from (from + count) ≡ keystream key nonce 0 from count

@@ -1,3 +1,4 @@
 mod Layers
 mod Records
 mod Held
+mod Around

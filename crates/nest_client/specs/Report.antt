@@ -103,9 +103,13 @@ report_shifted c shift values thresholds = report_from c [] 0 (replicate 32 0) s
 abbrev pub report : Client → List (List ℕ) → List ℕ → Fields
 report c values thresholds = report_shifted c 0 values thresholds
 
+-- the report of a client with these extra bytes, of which there are none in version 1
+abbrev pub report_with : Client → List ℕ → List (List ℕ) → List ℕ → Fields
+report_with c extra values thresholds = report_from c extra 0 (replicate 32 0) 0 values thresholds
+
 -- the report of version 2
 abbrev pub report2 : Client → List ℕ → List (List ℕ) → List ℕ → Fields
-report2 c extra values thresholds = report_from c extra 0 (replicate 32 0) 0 values thresholds
+report2 c extra values thresholds = report_with c extra values thresholds
 
 -- a client by its parts
 abbrev pub client_of : Version → ℕ → List ℕ → ℕ → Client

@@ -7,12 +7,16 @@ use field61::Fe;
 use report_frame::{NONCE_BYTES, Version};
 
 /// Who reports, when, and in which version.
-#[derive(Clone, Copy)]
-pub(crate) struct Client {
-    pub(crate) version: Version,
-    pub(crate) epoch: u32,
-    pub(crate) seed: [u8; 32],
-    pub(crate) number: u32,
+///
+/// A seed and a number make one report: another one wants another seed or number.
+#[derive(Clone, Copy, Debug)]
+pub struct Client {
+    pub version: Version,
+    pub epoch: u32,
+    /// What the coins of all clients come from.
+    pub seed: [u8; 32],
+    /// Which of them this one is.
+    pub number: u32,
 }
 
 /// The bytes of coins that choose a point.
