@@ -187,7 +187,7 @@ def read_frame(r):
     return Frame(version, level, epoch, k, x, y, tag, check, boxed, nonce, body, seal, sealed_part)
 
 
-# ---- records: ("Whole", bytes), ("TooLong",), ("CutLength",), ("CutRecord",)
+# ---- records: ("Whole", bytes), ("TooLong", said), ("CutLength", have), ("CutRecord", have)
 
 def record(text):
     return struct.pack(">I", len(text)) + text
@@ -197,11 +197,11 @@ def records(stream):
     found, at = [], 0
     while at < len(stream):
         if len(stream) - at < 4:
-            return found + [("CutLength",)]
+            return found + [("CutLength", len(stream) - at)]
         said = int.from_bytes(stream[at:at + 4], "big")
         if len(stream) - at - 4 < said:
-            return found + [("CutRecord",)]
+            return found + [("CutRecord", len(stream) - at - 4)]
         body = stream[at + 4:at + 4 + said]
-        found.append(("Whole", body) if said <= MAX_RECORD_BYTES else ("TooLong",))
+        found.append(("Whole", body) if said <= MAX_RECORD_BYTES else ("TooLong", said))
         at += 4 + said
     return found
