@@ -1,5 +1,5 @@
-mod Sizes
-mod VersionFacts
+pub mod Sizes
+pub mod VersionFacts
 mod Lengths
 mod Walk
 mod Frames

@@ -1,0 +1,148 @@
+-- The laws of certificates, for the layers above.
+use Rattle.std.proofs.Common.{◌≡◌, ℕ, ◌+◌, List, [], ◌++◌, length, Result, Ok, Err, refl, sym, ap, subst, ◌∙◌, arith, inl, inr}
+use Rattle.std.specs.Prelude.{◌⊎◌, ◌↔◌, All}
+use Rattle.star_io.specs.Bytes.{AreBytes}
+use Rattle.report_frame.specs.Format.{Entry}
+use Rattle.cert_audit.specs.declared.kind.CertKind.{CertKind}
+use Rattle.cert_audit.specs.declared.fault.CertFault.{CertFault}
+use Rattle.cert_audit.specs.declared.cert.Cert.{Cert}
+use Rattle.cert_audit.specs.declared.cert.ReadCert.{ReadCert}
+use Rattle.cert_audit.specs.Layout.{After, IsDone, spelling}
+use Rattle.cert_audit.specs.Certificate.{InRange, certificate, entries, cert_spelling, BeginsWith, FaultAt}
+use Rattle.cert_audit.specs.Reading.{◌>>=◌, fault_at, read, reading, cert_from}
+use Rattle.cert_audit.specs.Laws.{BeginsWithOne, HasOneFault}
+use Rattle.cert_audit.proofs.Walk.{Answer, found, Whole, Wrong, read-whole, read-wrong}
+use Rattle.cert_audit.proofs.Entries.{certificate_is_sound, after-entries, whole_entries, cert_from-entries, are_three}
+
+-- a place, counted from the front
+from_front : (n : ℕ) → 0 + n ≡ n
+from_front n = omega arith
+
+-- what is read of entries and a place
+abbrev of_answer : Answer → Result ReadCert CertFault
+of_answer r = r >>= λ x. Ok (record { cert = cert_from x.0; used = x.1 })
+
+-- ---- reading
+
+-- bytes that begin with a certificate give it
+pub reading-cert : (r : ReadCert) (bytes : List ℕ) → BeginsWith r.cert r.used bytes → reading bytes ≡ Ok r
+unfolding reading cert_spelling
+reading-cert r bytes begins =
+    let entries_read : read certificate 0 [] bytes ≡ Ok (entries r.cert, 0 + length (spelling certificate (entries r.cert))) =
+    ap (read certificate 0 []) begins.spelt ∙ read-whole certificate 0 (entries r.cert) begins.rest certificate_is_sound (after-entries r.cert begins.in_range) in
+    ap of_answer entries_read
+    ∙ ap (λ (c : Cert). Ok (record { cert = c; used = 0 + length (spelling certificate (entries r.cert)) })) (cert_from-entries r.cert (are_three r.cert begins.in_range))
+    ∙ ap (λ (n : ℕ). Ok (record { cert = r.cert; used = n })) (from_front _ ∙ sym begins.long)
+
+-- and bytes with a fault give the fault
+pub reading-fault : (bytes : List ℕ) (f : CertFault) → FaultAt bytes f.kind f.at → reading bytes ≡ Err f
+unfolding reading
+reading-fault bytes f wrong =
+    let fault_read : read certificate 0 [] bytes ≡ fault_at f.kind (0 + length (spelling certificate wrong.first)) =
+    ap (read certificate 0 []) wrong.spelt ∙ read-wrong certificate 0 wrong.first wrong.rest f.kind certificate_is_sound wrong.wrong in
+    ap of_answer fault_read ∙ ap (λ (p : ℕ). fault_at f.kind p) (from_front _ ∙ sym wrong.place)
+
+-- what bytes give
+pub data ReadsTo (bytes : List ℕ) : Type 0 where
+  ToCert : (r : ReadCert) → BeginsWith r.cert r.used bytes → reading bytes ≡ Ok r → ReadsTo bytes
+  ToFault : (f : CertFault) → FaultAt bytes f.kind f.at → reading bytes ≡ Err f → ReadsTo bytes
+
+pub reads_to : (bytes : List ℕ) → AreBytes bytes → ReadsTo bytes
+unfolding cert_spelling
+reads_to bytes are_bytes = elim (found certificate 0 [] bytes are_bytes) [
+  | Whole es rest place after parts place_is is ↦
+      let whole = whole_entries es after in
+      let r : ReadCert = record { cert = whole.cert; used = place } in
+      let begins : BeginsWith whole.cert place bytes = record {
+        in_range = whole.in_range;
+        rest = rest;
+        spelt = parts ∙ ap (λ (l : List Entry). spelling certificate l ++ rest) whole.is;
+        long = place_is ∙ from_front _ ∙ ap (λ (l : List Entry). length (spelling certificate l)) whole.is;
+      } in
+      ToCert r begins (reading-cert r bytes begins)
+  | Wrong es rest kind place after parts place_is is ↦
+      let f : CertFault = record { kind = kind; at = place } in
+      let wrong : FaultAt bytes kind place = record { first = es; rest = rest; spelt = parts; place = place_is ∙ from_front _; wrong = after } in
+      ToFault f wrong (reading-fault bytes f wrong)
+]
+
+-- ---- one certificate, one fault
+
+-- reading gives a certificate exactly where the bytes begin with it
+pub reading_cert : (bytes : List ℕ) (r : ReadCert) → AreBytes bytes → (reading bytes ≡ Ok r) ↔ BeginsWith r.cert r.used bytes
+reading_cert bytes r are_bytes = (
+  λ is. elim (reads_to bytes are_bytes) [
+    | ToCert q begins is_q ↦ let e : q ≡ r = cc in subst (λ (p : ReadCert). BeginsWith p.cert p.used bytes) e begins
+    | ToFault f wrong is_fault ↦ absurd cc
+  ],
+  λ begins. reading-cert r bytes begins,
+)
+
+-- and a fault exactly where it is theirs
+pub reading_fault : (bytes : List ℕ) (f : CertFault) → AreBytes bytes → (reading bytes ≡ Err f) ↔ FaultAt bytes f.kind f.at
+reading_fault bytes f are_bytes = (
+  λ is. elim (reads_to bytes are_bytes) [
+    | ToCert r begins is_r ↦ absurd cc
+    | ToFault g wrong is_fault ↦ let e : g ≡ f = cc in subst (λ (h : CertFault). FaultAt bytes h.kind h.at) e wrong
+  ],
+  λ wrong. reading-fault bytes f wrong,
+)
+
+-- bytes begin with one certificate, or have one fault
+pub cert_or_fault : (bytes : List ℕ) → AreBytes bytes → BeginsWithOne bytes ⊎ HasOneFault bytes
+cert_or_fault bytes are_bytes = elim (reads_to bytes are_bytes) [
+  | ToCert r begins is ↦ inl (record {
+    read = r;
+    begins = begins;
+    only = λ q begins_q. let is_q = reading-cert q bytes begins_q in let e : q ≡ r = cc in e;
+    no_fault = λ f wrong. let is_f = reading-fault bytes f wrong in absurd cc;
+  })
+  | ToFault f wrong is ↦ inr (record {
+    fault = f;
+    is_fault = wrong;
+    only = λ g wrong_g. let is_g = reading-fault bytes g wrong_g in let e : g ≡ f = cc in e;
+    no_cert = λ r begins. let is_r = reading-cert r bytes begins in absurd cc;
+  })
+]
+
+-- a certificate's bytes, whatever follows them, are those of no other
+pub no_prefix : (c d : Cert) (more other : List ℕ) → InRange c → InRange d → cert_spelling c ++ more ≡ cert_spelling d ++ other → c ≡ d
+no_prefix c d more other of_c of_d same =
+    let bytes : List ℕ = cert_spelling c ++ more in
+    let r : ReadCert = record { cert = c; used = length (cert_spelling c) } in
+    let q : ReadCert = record { cert = d; used = length (cert_spelling d) } in
+    let is_c = reading-cert r bytes (record { in_range = of_c; rest = more; spelt = refl; long = refl }) in
+    let is_d = reading-cert q bytes (record { in_range = of_d; rest = other; spelt = same; long = refl }) in
+    let e : r ≡ q = cc in ap (λ (p : ReadCert). p.cert) e
+
+-- ---- what the code reads
+
+-- a certificate whose entries were read is in range, and the bytes begin with it
+pub entries_read : (bytes : List ℕ) (c : Cert) (used : ℕ) → AreBytes bytes → All (λ p. length p.y ≡ 3) c.points → read certificate 0 [] bytes ≡ Ok (entries c, used) → BeginsWith c used bytes
+unfolding cert_spelling
+entries_read bytes c used are_bytes are is = elim (found certificate 0 [] bytes are_bytes) [
+  | Whole es rest place after parts place_is found_is ↦
+      let pair : (es, place) ≡ (entries c, used) = cc in
+      let same : es ≡ entries c = ap (λ (p : List Entry × ℕ). p.0) pair in
+      let end : place ≡ used = ap (λ (p : List Entry × ℕ). p.1) pair in
+      let whole = whole_entries es after in
+      let one : whole.cert ≡ c = sym (cert_from-entries whole.cert (are_three whole.cert whole.in_range)) ∙ ap cert_from (sym whole.is ∙ same) ∙ cert_from-entries c are in
+      record {
+        in_range = subst InRange one whole.in_range;
+        rest = rest;
+        spelt = parts ∙ ap (λ (l : List Entry). spelling certificate l ++ rest) same;
+        long = sym end ∙ place_is ∙ from_front _ ∙ ap (λ (l : List Entry). length (spelling certificate l)) same;
+      }
+  | Wrong es rest kind place after parts place_is found_is ↦ absurd cc
+]
+
+-- the fault of reading the entries is that of the bytes
+pub fault_read : (bytes : List ℕ) (f : CertFault) → AreBytes bytes → read certificate 0 [] bytes ≡ Err f → FaultAt bytes f.kind f.at
+fault_read bytes f are_bytes is = elim (found certificate 0 [] bytes are_bytes) [
+  | Whole es rest place after parts place_is found_is ↦ absurd cc
+  | Wrong es rest kind place after parts place_is found_is ↦
+      let g : CertFault = record { kind = kind; at = place } in
+      let e : g ≡ f = cc in
+      let wrong : FaultAt bytes g.kind g.at = record { first = es; rest = rest; spelt = parts; place = place_is ∙ from_front _; wrong = after } in
+      subst (λ (h : CertFault). FaultAt bytes h.kind h.at) e wrong
+]

@@ -1,0 +1,9 @@
+pub mod Ascending
+pub mod CertLaws
+pub mod Entries
+pub mod Fronts
+pub mod Sound
+pub mod Spelt
+pub mod Steps
+pub mod Walk
+pub mod Whole
