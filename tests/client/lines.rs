@@ -1,0 +1,35 @@
+// Makes the report of each line of standard input through the crate in bindings/rust, as lines.c does.
+use star_client::{Fault, Request, Version, report};
+use std::io::BufRead;
+
+fn bytes_of(hex: &str) -> Vec<u8> {
+    (0..hex.len() / 2).map(|i| u8::from_str_radix(&hex[2 * i..2 * i + 2], 16).unwrap()).collect()
+}
+
+fn list(word: &str) -> Vec<&str> {
+    if word == "-" { Vec::new() } else { word.split(',').collect() }
+}
+
+fn main() {
+    for line in std::io::stdin().lock().lines().map(Result::unwrap) {
+        let words: Vec<&str> = line.split(' ').collect();
+        let values: Vec<Vec<u8>> = list(words[5]).into_iter().map(bytes_of).collect();
+        let values: Vec<&[u8]> = values.iter().map(Vec::as_slice).collect();
+        let thresholds: Vec<u16> = list(words[4]).iter().map(|k| k.parse().unwrap()).collect();
+        let extra = if words[6] == "-" { Vec::new() } else { bytes_of(words[6]) };
+        let request = Request {
+            version: if words[0] == "2" { Version::Two } else { Version::One },
+            values: &values,
+            thresholds: &thresholds,
+            extra: &extra,
+            epoch: words[1].parse().unwrap(),
+        };
+        let seed = bytes_of(words[3]).try_into().unwrap();
+        match report(&request, &seed, words[2].parse().unwrap()) {
+            Ok(report) => println!("{}", report.iter().map(|b| format!("{b:02x}")).collect::<String>()),
+            Err(Fault::Thresholds) => println!("status 2"),
+            Err(Fault::Values) => println!("status 3"),
+            Err(Fault::Extra) => println!("status 4"),
+        }
+    }
+}
