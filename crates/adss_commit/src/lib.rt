@@ -12,7 +12,7 @@ mod share;
 pub use boxes::{box_value, open_value};
 pub use context::{Context, Derived, derive};
 pub use keys::{body_key, seal_key};
-pub use polynomials::{coefficients, coefficients_of};
+pub use polynomials::coefficients;
 pub use share::share_of;
 
 #[cfg(test)]

@@ -23,8 +23,8 @@ pub fn coefficients(alloc: Global, context: &Context) -> Result<Coefficients, No
     coefficients_of(alloc, context, &context_key(context))
 }
 
-/// The same for a caller that has the key of the context, which then isn't hashed again.
-pub fn coefficients_of(
+// The same by the key of the context.
+fn coefficients_of(
     alloc: Global,
     context: &Context,
     key: &Key,

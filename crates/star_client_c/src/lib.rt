@@ -98,3 +98,6 @@ fn seed_of(bytes: &[u8]) -> Option<[u8; 32]>
     seed.copy_from_slice(bytes);
     Some(seed)
 }
+
+#[cfg(test)]
+mod tests;
