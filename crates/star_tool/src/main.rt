@@ -89,6 +89,8 @@ fn words_in(rt: &HostRuntime) -> Result<Words, Status> {
 #[cfg(test)]
 mod tests;
 #[cfg(test)]
+mod tests_faults;
+#[cfg(test)]
 mod tests_levels;
 #[cfg(test)]
 mod tests_walk;

@@ -6,6 +6,7 @@ use crate::run;
 use adss_commit::{Context, body_key, derive, seal_key};
 use chacha_stream::xor_stream;
 use command_words::Words;
+use field61::Fe;
 use hmac_seal::hmac;
 use recovery_pool::{Gate, NoGate};
 use report_frame::{
@@ -72,7 +73,18 @@ pub(crate) fn told_by<R: Threads + Sync, G: Gate>(
     Ok(Vec::from_slice(alloc, out.told())?)
 }
 
-/// The records of the reports that `make` with these options and a seed of zeros makes of a table.
+/// The stream of the reports that `make` with these options and a seed of zeros makes of a table.
+pub(crate) fn made_stream<R: Threads + Sync>(
+    rt: &R,
+    alloc: Global,
+    options: &str,
+    table: &str,
+) -> Result<Vec<u8>, Fail> {
+    let line = format!(in alloc; "make --seed {ZEROS} {options}")?;
+    told_by(rt, alloc, &line, table.as_bytes(), &NoGate)
+}
+
+/// The records of that stream.
 pub(crate) fn made<R: Threads + Sync>(
     rt: &R,
     alloc: Global,
@@ -81,8 +93,7 @@ pub(crate) fn made<R: Threads + Sync>(
 ) -> Result<Vec<Record>, Fail>
     ensures { IfOk result (λ records. length records.items ≤ MAX_RECORDS) }
 {
-    let line = format!(in alloc; "make --seed {ZEROS} {options}")?;
-    let stream = told_by(rt, alloc, &line, table.as_bytes(), &NoGate)?;
+    let stream = made_stream(rt, alloc, options, table)?;
     match read_records(alloc, &mut source(alloc, &stream)?) {
         Ok(records) => Ok(records),
         Err(_) => Err(Fail::from(NoMemory)),
@@ -174,6 +185,13 @@ pub(crate) fn frame_of(alloc: Global, report: &Report) -> Result<Vec<u8>, Fail> 
         return Err(Fail::from(NoMemory));
     }
     Ok(encode(alloc, report)?)
+}
+
+/// The frame with the first number of its share raised by 1, and all else kept.
+pub(crate) fn raised(alloc: Global, frame: &[u8]) -> Result<Vec<u8>, Fail> {
+    let mut report = report_of(alloc, frame)?;
+    report.y[0] = report.y[0].add(Fe::ONE);
+    frame_of(alloc, &report)
 }
 
 /// The plain body of a report of this context, or the encrypted one of a plain one.

@@ -43,3 +43,5 @@ pub(crate) fn reveal_output<R: Threads + Sync, S: Source, G: Gate>(
 mod tests;
 #[cfg(test)]
 mod tests_cities;
+#[cfg(test)]
+mod tests_fronts;

@@ -1,9 +1,8 @@
 use crate::trial_streams::{
-    first_context, frame, frame_of, made, push_record, report_of, resealed, source, stream_by,
-    stream_of, told_by, words_in,
+    first_context, frame, frame_of, made, push_record, raised, report_of, resealed, source,
+    stream_by, stream_of, told_by, words_in,
 };
 use crate::{Status, run};
-use field61::Fe;
 use recovery_pool::NoGate;
 use report_frame::Version;
 use star_io::{MemorySink, MemorySource};
@@ -16,13 +15,6 @@ const REDS: &str = "red\nred\nred\nred\nred\nred\nred\n";
 const RED_OPTIONS: &str = "--epoch 1 --thresholds 2";
 
 const RED_LINE: &str = "reveal --epoch 1";
-
-// The frame with the first number of its share raised by 1, and all else kept.
-fn raised(alloc: Global, frame: &[u8]) -> Result<Vec<u8>, Fail> {
-    let mut report = report_of(alloc, frame)?;
-    report.y[0] = report.y[0].add(Fe::ONE);
-    frame_of(alloc, &report)
-}
 
 // The frame with the lowest bit of its tag's first byte changed, and all else kept.
 fn tagged(alloc: Global, frame: &[u8]) -> Result<Vec<u8>, Fail> {

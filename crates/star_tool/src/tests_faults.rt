@@ -1,0 +1,233 @@
+// Inputs and coins of which a take fails, outputs of which a put fails, and inputs that are cut, for each verb.
+use crate::trial_streams::{made_stream, words_in};
+use crate::{Status, run};
+use recovery_pool::NoGate;
+use star_io::{FailAt, MemorySink, MemorySource};
+use std::alloc::Global;
+use std::test::*;
+use std::thread::Threads;
+
+// The most bytes that a run tells here.
+const ROOM: usize = 65_536;
+
+// The most takes that a run makes here of one source.
+const MOST_TAKES: u64 = 10_000;
+
+// The coins are so many zeros.
+const COINS: usize = 40;
+
+/// A command line, its input, and what it tells where nothing fails: at least one byte.
+#[derive(Drop)]
+pub(crate) struct Case<'a> {
+    line: &'a str,
+    input: &'a [u8],
+    told: &'a [u8],
+}
+
+impl<'a> Case<'a> {
+    pub(crate) fn new(line: &'a str, input: &'a [u8], told: &'a [u8]) -> Case<'a> {
+        Case { line, input, told }
+    }
+}
+
+// A source of these bytes, of which each take brings at most `cut` bytes, and takes of these numbers fail.
+fn failing(alloc: Global, bytes: &[u8], cut: usize, fails: &[u64]) -> Result<MemorySource, Fail> {
+    let bytes = Vec::from_slice(alloc, bytes)?;
+    let cuts = vec![in alloc; cut; MOST_TAKES as usize]?;
+    Ok(MemorySource::new(bytes, cuts, Vec::from_slice(alloc, fails)?))
+}
+
+// The sources and the sink of a run, as it leaves them, and how it ended.
+#[derive(Drop)]
+struct Ran {
+    input: MemorySource,
+    coins: MemorySource,
+    out: MemorySink,
+    status: Status,
+}
+
+impl Ran {
+    fn over<R: Threads + Sync>(
+        rt: &R,
+        alloc: Global,
+        line: &str,
+        mut input: MemorySource,
+        mut coins: MemorySource,
+        fails: &[FailAt],
+    ) -> Result<Ran, Fail> {
+        let words = words_in(alloc, line)?;
+        let mut out = MemorySink::new(alloc, ROOM, Vec::from_slice(alloc, fails)?)?;
+        let status = run(rt, alloc, &words, &mut input, &mut coins, &NoGate, &mut out);
+        Ok(Ran {
+            input,
+            coins,
+            out,
+            status,
+        })
+    }
+
+    // A read failed, and nothing was told.
+    fn is_read_fault(&self) -> bool {
+        self.status == Status::ReadFault && self.out.told().is_empty()
+    }
+
+    fn is_done(&self, told: &[u8]) -> bool {
+        self.status == Status::Done && self.out.told() == told
+    }
+}
+
+/// Whether a failing take of the input, whichever it is, tells nothing, and the run tells its text in
+/// which no take fails. A take brings at most `cut` bytes.
+pub(crate) fn bears_failing_takes<R: Threads + Sync>(
+    rt: &R,
+    alloc: Global,
+    case: &Case,
+    cut: usize,
+) -> Result<bool, Fail> {
+    for take in 0..MOST_TAKES {
+        let input = failing(alloc, case.input, cut, &[take])?;
+        let coins = failing(alloc, &[0; COINS], cut, &[])?;
+        let ran = Ran::over(rt, alloc, case.line, input, coins, &[])?;
+        if ran.input.calls() <= take {
+            return Ok(ran.is_done(case.told));
+        }
+        if !ran.is_read_fault() {
+            return Ok(false);
+        }
+    }
+    Ok(false)
+}
+
+/// The same of the takes of the coins.
+pub(crate) fn bears_failing_coins<R: Threads + Sync>(
+    rt: &R,
+    alloc: Global,
+    case: &Case,
+    cut: usize,
+) -> Result<bool, Fail> {
+    for take in 0..MOST_TAKES {
+        let input = failing(alloc, case.input, cut, &[])?;
+        let coins = failing(alloc, &[0; COINS], cut, &[take])?;
+        let ran = Ran::over(rt, alloc, case.line, input, coins, &[])?;
+        if ran.coins.calls() <= take {
+            return Ok(ran.is_done(case.told));
+        }
+        if !ran.is_read_fault() {
+            return Ok(false);
+        }
+    }
+    Ok(false)
+}
+
+/// Whether a put that fails after some bytes has told these, for each number of bytes of the text.
+pub(crate) fn bears_failing_puts<R: Threads + Sync>(
+    rt: &R,
+    alloc: Global,
+    case: &Case,
+) -> Result<bool, Fail> {
+    for after in 0..=case.told.len() {
+        let input = failing(alloc, case.input, ROOM, &[])?;
+        let coins = failing(alloc, &[0; COINS], ROOM, &[])?;
+        let ran = Ran::over(
+            rt,
+            alloc,
+            case.line,
+            input,
+            coins,
+            &[FailAt { call: 0, after }],
+        )?;
+        let told = ran.out.told();
+        if ran.status != Status::WriteFault || told.len() != after || !case.told.starts_with(told) {
+            return Ok(false);
+        }
+    }
+    Ok(true)
+}
+
+/// How a run ends on the fronts of an input that have from `first` to `last` bytes, and what it tells.
+#[derive(Drop)]
+pub(crate) struct Fronts<'a> {
+    first: usize,
+    last: usize,
+    status: Status,
+    told: &'a [u8],
+}
+
+impl<'a> Fronts<'a> {
+    pub(crate) fn new(first: usize, last: usize, status: Status, told: &'a [u8]) -> Fronts<'a> {
+        Fronts {
+            first,
+            last,
+            status,
+            told,
+        }
+    }
+}
+
+/// Whether each of these fronts of the input ends and tells so.
+pub(crate) fn ends_so<R: Threads + Sync>(
+    rt: &R,
+    alloc: Global,
+    line: &str,
+    input: &[u8],
+    fronts: &Fronts,
+) -> Result<bool, Fail> {
+    for size in fronts.first..=fronts.last {
+        let (front, _) = input.split_at(size.min(input.len()));
+        let input = failing(alloc, front, ROOM, &[])?;
+        let coins = failing(alloc, &[0; COINS], ROOM, &[])?;
+        let ran = Ran::over(rt, alloc, line, input, coins, &[])?;
+        if ran.status != fronts.status || ran.out.told() != fronts.told {
+            return Ok(false);
+        }
+    }
+    Ok(true)
+}
+
+// The text of an empty input to `check`.
+const CHECKED: &[u8] = b"records=0 good=0 refused=0\n";
+
+// The text of the reports of `red` of two clients.
+const REDS_TOLD: &[u8] =
+    b"open red~2 points=2 agree=2 members=2\nlevel 0 opened=1 few=0 noline=0 badvalue=0\nrecords=2 rows=2 refused=0\n";
+
+const TRIAL_TOLD: &[u8] =
+    b"level 0 opened=0 few=1 noline=0 badvalue=0\nrecords=1 rows=1 refused=0\ntext=2b1e13f944338ac91b727831632c537af6f3c085c3f52211c2709542bfecabf3\n";
+
+const VECTORS_TOLD: &[u8] =
+    b"vector 1 ok\nvector 2 ok\nvector 3 ok\nvector 4 ok\nvector 5 ok\nvector 6 ok\nvector 7 ok\nvectors=7 ok=7\n";
+
+// The record of the report of `red` under threshold 2, in epoch 1, from client 0 with a seed of zeros.
+const RED: &[u8] =
+    b"\x00\x00\x00\x8d\x53\x54\x01\x00\x00\x00\x00\x01\x00\x02\x06\xb8\xe0\xad\xa0\xf1\x3d\x91\x0b\x79\xc5\x9d\x12\x73\x28\x79\x08\x81\xd8\xd7\xcf\x3f\xcb\x23\x03\x56\xf5\xca\xe5\xcc\xc5\x8f\xf6\x7d\x67\x87\x17\xbd\xf3\xb1\xda\x3e\x31\x81\x1c\xf2\xae\x3b\x44\x81\x6b\xc0\x21\x97\x30\x80\x80\x58\x60\xf2\xca\x6d\x34\x5b\xa6\xb0\x48\x39\xdd\xa5\x68\x52\xe7\x95\x5c\x27\xb0\x84\x70\x4b\x03\xf8\xd0\x5b\x40\x5d\x6a\xe5\x53\x86\xbd\x28\xbd\xd2\x19\xb8\x00\x01\x0d\x30\x52\x52\x36\x5b\x25\xa5\x7e\xdd\xc6\x95\xd8\x91\x1b\x06\xed\x8d\x86\x70\xd5\x55\x34\x75\xfe\x2e\x73\xcb\x25\x78\xd6\x40\xc0";
+
+#[test]
+fn each_verb_bears_each_fault(rt: HostRuntime) -> Result<(), Fail> {
+    let alloc = rt.alloc();
+    let reds = made_stream(&rt, alloc, "--epoch 1 --thresholds 2", "red\nred\n")?;
+    let cases = [
+        Case::new("check", b"", CHECKED),
+        Case::new("reveal --epoch 1", &reds, REDS_TOLD),
+        Case::new("make --epoch 1 --thresholds 2", b"red\n", RED),
+        Case::new("gen --number 0 --reports 1 --liars 0", b"", TRIAL_TOLD),
+        Case::new("selftest", b"", VECTORS_TOLD),
+    ];
+    for case in &cases {
+        assert!(rt;
+            bears_failing_takes(&rt, alloc, case, 9)?,
+            "takes, {}",
+            case.line
+        );
+        assert!(rt;
+            bears_failing_coins(&rt, alloc, case, 9)?,
+            "coins, {}",
+            case.line
+        );
+        assert!(rt;
+            bears_failing_puts(&rt, alloc, case)?,
+            "puts, {}",
+            case.line
+        );
+    }
+    Ok(())
+}
