@@ -1,7 +1,7 @@
 -- What an audit says yes to is opened so, and what is opened so has a certificate that it says yes to.
-use Rattle.std.proofs.Common.{◌≡◌, ℕ, ◌+◌, ◌-◌, ◌*◌, ◌<◌, ◌≤◌, Bool, true, false, ltb, List, Option, Some, None, take, drop, refl, sym, ap, ◌∙◌, length, subst, slice_index, arith}
-use Rattle.std.specs.Prelude.{if◌then◌else◌, not}
-use Rattle.std.proofs.lemmas.Bool.{lt-ltb, le-ltb, ltb-true, ltb-false, and_parts, and_from}
+use Rattle.std.proofs.Common.{◌≡◌, ℕ, [], ◌∷◌, ◌+◌, ◌-◌, ◌*◌, ◌<◌, ◌≤◌, Bool, true, false, ltb, List, Option, Some, None, take, drop, refl, sym, ap, ◌∙◌, length, subst, slice_index, arith}
+use Rattle.std.specs.Prelude.{if◌then◌else◌, not, slice_range, ◌↔◌, IsSome, is_some}
+use Rattle.std.proofs.lemmas.Bool.{false≢true, lt-ltb, le-ltb, ltb-true, ltb-false, and_parts, and_from}
 use Rattle.std.proofs.lemmas.List.{get_or_past, length-take}
 use Rattle.std.proofs.lemmas.List.Elements.{All-take, All-drop, All-map, All-weaker}
 use Rattle.field61.specs.Field.{AreElements}
@@ -9,6 +9,7 @@ use Rattle.field61.specs.declared.TheConstants.{MODULUS}
 use Rattle.shamir_limbs.specs.declared.key.Key.{Key}
 use Rattle.shamir_limbs.specs.declared.share.Point.{Point}
 use Rattle.shamir_limbs.specs.declared.recovery.Recovered.{Recovered}
+use Rattle.shamir_limbs.specs.Coefficients.{values}
 use Rattle.shamir_limbs.specs.KeyLine.{xs_of, AreDistinct, HasDegreeBelow, values_at_zero, agreement_of_all, IsKeyLine}
 use Rattle.shamir_limbs.specs.Limbs.{AreLimbs}
 use Rattle.shamir_limbs.specs.Search.{are_limbs, recovered_from, key_line_of}
@@ -72,6 +73,64 @@ points-distinct c range i j less within same =
     let apart = ascend_apart 0 (xs_of c.points) i j (increasing-AscendFrom 0 (xs_of c.points) range.is_cert.ascending) less within in
     omega (arith, apart, same)
 
+-- ---- each verdict
+
+pub verdict-few : (c : Cert) → length c.points < c.head.k → verdict_of c ≡ Few
+unfolding verdict_of
+verdict-few c few = ap (λ (b : Bool). tested b (are_limbs (claimed_limbs c)) (ltb (2 * agree_of c) (length c.points + c.head.k)) (agree_of c) (claimed_value c)) (lt-ltb (length c.points) c.head.k few)
+
+pub verdict-key : (c : Cert) → c.head.k ≤ length c.points → are_limbs (claimed_limbs c) ≡ false → verdict_of c ≡ WrongKey
+unfolding verdict_of
+verdict-key c many wrong =
+    let short : Bool = ltb (2 * agree_of c) (length c.points + c.head.k) in
+    ap (λ (b : Bool). tested b (are_limbs (claimed_limbs c)) short (agree_of c) (claimed_value c)) (le-ltb (length c.points) c.head.k many)
+    ∙ ap (λ (b : Bool). tested false b short (agree_of c) (claimed_value c)) wrong
+
+limbs_tested : (c : Cert) → c.head.k ≤ length c.points → AreLimbs (claimed_limbs c)
+    → verdict_of c ≡ tested false true (ltb (2 * agree_of c) (length c.points + c.head.k)) (agree_of c) (claimed_value c)
+unfolding verdict_of
+limbs_tested c many limbs =
+    let short : Bool = ltb (2 * agree_of c) (length c.points + c.head.k) in
+    ap (λ (b : Bool). tested b (are_limbs (claimed_limbs c)) short (agree_of c) (claimed_value c)) (le-ltb (length c.points) c.head.k many)
+    ∙ ap (λ (b : Bool). tested false b short (agree_of c) (claimed_value c)) (are_limbs-true (claimed_limbs c) limbs)
+
+pub verdict-short : (c : Cert) → c.head.k ≤ length c.points → AreLimbs (claimed_limbs c) → 2 * agree_of c < length c.points + c.head.k → verdict_of c ≡ Short (agree_of c)
+verdict-short c many limbs short =
+    limbs_tested c many limbs ∙ ap (λ (b : Bool). tested false true b (agree_of c) (claimed_value c)) (lt-ltb (2 * agree_of c) (length c.points + c.head.k) short)
+
+pub verdict-value : (c : Cert) → c.head.k ≤ length c.points → AreLimbs (claimed_limbs c) → length c.points + c.head.k ≤ 2 * agree_of c → verdict_of c ≡ verdict_with (agree_of c) (claimed_value c)
+verdict-value c many limbs enough =
+    limbs_tested c many limbs ∙ ap (λ (b : Bool). tested false true b (agree_of c) (claimed_value c)) (le-ltb (2 * agree_of c) (length c.points + c.head.k) enough)
+
+-- where no key is found the limbs are no key's
+pub limbs_wrong : (o : Option Key) (numbers : List ℕ) → (IsSome o ↔ AreLimbs numbers) → o ≡ None → are_limbs numbers ≡ false
+limbs_wrong o numbers found none =
+    elim (are_limbs numbers) as (λ b. are_limbs numbers ≡ b → b ≡ false) [
+      | true ↦ λ is. absurd (let some : IsSome o = found.1 (limbs_are numbers is) in false≢true (sym (ap is_some none) ∙ some))
+      | false ↦ λ is. refl
+    ] refl
+
+-- ---- the polynomials, cut out of the numbers
+
+polynomial_cut : (c : Cert) (numbers : List ℕ) (j from to : ℕ) → numbers ≡ c.numbers → from ≡ j * c.head.k → to ≡ (j + 1) * c.head.k → slice_range numbers from to ≡ polynomial_of c j
+polynomial_cut c numbers j from to same start end = λ i. slice_range (same i) (start i) (end i)
+
+pub limbs_cut : (c : Cert) (numbers : List ℕ) → numbers ≡ c.numbers
+    → values (slice_range numbers 0 c.head.k ∷ slice_range numbers c.head.k (2 * c.head.k) ∷ slice_range numbers (2 * c.head.k) (3 * c.head.k) ∷ []) 0 ≡ claimed_limbs c
+limbs_cut c numbers same =
+    let first = polynomial_cut c numbers 0 0 c.head.k same (omega arith) (omega arith) in
+    let second = polynomial_cut c numbers 1 c.head.k (2 * c.head.k) same (omega arith) (omega arith) in
+    let third = polynomial_cut c numbers 2 (2 * c.head.k) (3 * c.head.k) same (omega arith) (omega arith) in
+    λ i. values (first i ∷ second i ∷ third i ∷ []) 0
+
+pub agree_cut : (c : Cert) (numbers : List ℕ) (points : List Point) → numbers ≡ c.numbers → points ≡ c.points
+    → agreement_of_all (slice_range numbers 0 c.head.k) (slice_range numbers c.head.k (2 * c.head.k)) (slice_range numbers (2 * c.head.k) (3 * c.head.k)) points ≡ agree_of c
+agree_cut c numbers points same same_points =
+    let first = polynomial_cut c numbers 0 0 c.head.k same (omega arith) (omega arith) in
+    let second = polynomial_cut c numbers 1 c.head.k (2 * c.head.k) same (omega arith) (omega arith) in
+    let third = polynomial_cut c numbers 2 (2 * c.head.k) (3 * c.head.k) same (omega arith) (omega arith) in
+    λ i. agreement_of_all (first i) (second i) (third i) (same_points i)
+
 -- ---- soundness
 
 -- a certificate with the verdict Yes shows what its group opens to
@@ -101,13 +160,4 @@ audit_sound c value agree range said =
 -- polynomials on which enough of the points lie, and whose key opens the head, have the verdict Yes
 pub audit_complete : (c : Cert) (value : List ℕ) → c.head.k ≤ length c.points → IsKeyLine (polynomial_of c 0) (polynomial_of c 1) (polynomial_of c 2) c.points c.head.k
     → claimed_value c ≡ Some value → verdict_of c ≡ Yes value (agree_of c)
-unfolding verdict_of
-audit_complete c value many line opens =
-    let k : ℕ = c.head.k in
-    let n : ℕ = length c.points in
-    let limbs : Bool = are_limbs (claimed_limbs c) in
-    let short : Bool = ltb (2 * agree_of c) (n + k) in
-    ap (λ (b : Bool). tested b limbs short (agree_of c) (claimed_value c)) (le-ltb n k many)
-    ∙ ap (λ (b : Bool). tested false b short (agree_of c) (claimed_value c)) (are_limbs-true (claimed_limbs c) line.limbs)
-    ∙ ap (λ (b : Bool). tested false true b (agree_of c) (claimed_value c)) (le-ltb (2 * agree_of c) (n + k) line.agrees)
-    ∙ ap (λ (o : Option (List ℕ)). tested false true false (agree_of c) o) opens
+audit_complete c value many line opens = verdict-value c many line.limbs line.agrees ∙ ap (verdict_with (agree_of c)) opens

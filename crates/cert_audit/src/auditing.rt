@@ -29,7 +29,7 @@ pub fn audit(cert: &Cert) -> Verdict
         return Verdict::Few;
     }
     let numbers = cert.numbers.as_slice();
-    let first = &numbers[..k];
+    let first = &numbers[0..k];
     let second = &numbers[k..2 * k];
     let third = &numbers[2 * k..3 * k];
     let Some(key) = key_of(&values_at(first, second, third, Fe::ZERO)) else {
