@@ -24,11 +24,7 @@ pub fn coefficients(alloc: Global, context: &Context) -> Result<Coefficients, No
 }
 
 // The same by the key of the context.
-fn coefficients_of(
-    alloc: Global,
-    context: &Context,
-    key: &Key,
-) -> Result<Coefficients, NoMemory>
+fn coefficients_of(alloc: Global, context: &Context, key: &Key) -> Result<Coefficients, NoMemory>
     requires low { 1 ≤ context.now.k }
     requires high { context.now.k ≤ max_threshold context.now.version }
     requires key { key.now.bytes ≡ context_key context.now }

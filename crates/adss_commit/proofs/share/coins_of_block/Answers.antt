@@ -1,4 +1,4 @@
-use Rattle.std.proofs.Common.{◌≡◌, ◌∙◌, ◌*◌, ◌+◌, ℕ, List, refl, ap, ap₂, arith}
+use Rattle.std.proofs.Common.{◌≡◌, ◌∙◌, ◌*◌, ◌+◌, ℕ, List, refl, ap, arith}
 use Rattle.chacha_stream.specs.Keystream.{keystream}
 use Rattle.chacha_stream.proofs.StreamLaws.{later_block}
 use Rattle.adss_commit.specs.Derivation.{zero_nonce}

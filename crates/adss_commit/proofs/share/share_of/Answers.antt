@@ -1,6 +1,5 @@
-use Rattle.std.proofs.Common.{◌≡◌, ◌∙◌, ◌-◌, ◌*◌, ℕ, List, [], ◌∷◌, get_or, slice_index, ap, ap₂}
+use Rattle.std.proofs.Common.{◌≡◌, ◌∙◌, ℕ, List, [], ◌∷◌, get_or, ap, ap₂}
 use Rattle.poly61.specs.Poly.{value}
-use Rattle.shamir_limbs.specs.Limbs.{limbs}
 use Rattle.adss_commit.specs.declared.context.Context.{Context}
 use Rattle.adss_commit.specs.Derivation.{polynomial}
 use Rattle.adss_commit.proofs.Horner.{value_is}
