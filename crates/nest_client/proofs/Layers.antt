@@ -1,8 +1,8 @@
 -- Coins, seals and shares of a layer.
-use Rattle.std.proofs.Common.{◌≡◌, ◌∙◌, ◌≤◌, ℕ, ◌+◌, ◌-◌, List, [], ◌∷◌, ◌++◌, length, take, drop, replicate, get_or, slice_index, slice_range, refl, ap, ap₂, sym, append_assoc, arith}
-use Rattle.std.proofs.lemmas.List.{take_at, drop_at, take_all, length-drop, take-append-drop, take-replicate}
-use Rattle.chacha_stream.specs.Keystream.{keystream, xor_bytes}
-use Rattle.chacha_stream.proofs.StreamLaws.{keystream_length, keystream_from_zeros, split}
+use Rattle.std.proofs.Common.{◌≡◌, ◌∙◌, ◌≤◌, ℕ, ◌+◌, ◌-◌, List, [], ◌∷◌, ◌++◌, length, take, drop, get_or, slice_index, slice_range, refl, ap, ap₂, sym, append_assoc, arith}
+use Rattle.std.proofs.lemmas.List.{take_at, drop_at, take_all, length-drop, take-append-drop}
+use Rattle.chacha_stream.specs.Keystream.{keystream}
+use Rattle.chacha_stream.proofs.StreamLaws.{keystream_length, split}
 use Rattle.field61.specs.Field.{field_sum}
 use Rattle.field61.proofs.FieldLaws.{sum_below, sum_zero}
 use Rattle.report_frame.specs.declared.limits.TheConstants.{MAX_LAYERS, MAX_FRAME_ONE}

@@ -2,7 +2,7 @@
 use Rattle.std.specs.Prelude.{ℕ, ◌+◌, ◌-◌, List, [], ◌∷◌, ◌++◌, length, slice_range}
 use Rattle.std.specs.List.{sum_by}
 use Rattle.report_frame.specs.declared.limits.TheConstants.{FIXED_BYTES, FRONT_BYTES, NONCE_BYTES, SEAL_BYTES}
-use Rattle.report_frame.specs.Format.{Entry, spelling}
+use Rattle.report_frame.specs.Format.{spelling}
 use Rattle.report_frame.specs.Format.Entry.{Number, Bytes}
 use Rattle.report_frame.specs.Frame.{Fields, frame, front_entries}
 

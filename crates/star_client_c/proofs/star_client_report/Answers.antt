@@ -1,4 +1,4 @@
-use Rattle.std.proofs.Common.{◌≡◌, ◌∙◌, ℕ, List, length, drop, inr, refl, ap, arith}
+use Rattle.std.proofs.Common.{◌≡◌, ◌∙◌, ℕ, List, drop, inr, refl, ap, arith}
 use Rattle.std.proofs.lemmas.List.{take_at, length-take}
 use Rattle.nest_client.specs.Place.{report_bytes}
 use Rattle.star_client_c.specs.Request.{Request, request, report_length}

@@ -1,11 +1,11 @@
-use Rattle.std.proofs.Common.{◌≡◌, ◌∙◌, ◌++◌, ℕ, List, length, get_or, refl, ap, subst, sym, arith}
+use Rattle.std.proofs.Common.{◌≡◌, ◌∙◌, ◌++◌, ℕ, List, length, refl, ap, subst, sym, arith}
 use Rattle.chacha_stream.proofs.StreamLaws.{same_length}
 use Rattle.report_frame.specs.Frame.{Fields, IsFrame, sealed_part}
 use Rattle.adss_commit.specs.declared.context.Context.{Context}
 use Rattle.adss_commit.specs.Derivation.{body_of, polynomials}
 use Rattle.nest_client.specs.declared.client.Client.{Client}
 use Rattle.nest_client.specs.Place.{body_in}
-use Rattle.nest_client.specs.Report.{layer, frame_of}
+use Rattle.nest_client.specs.Report.{layer}
 use Rattle.nest_client.proofs.Layers.{layer_made, sealed_is_frame}
 use Rattle.nest_client.proofs.Around.{layer_around}
 use Rattle.nest_client.proofs.layer.write_layer.Goals as goal

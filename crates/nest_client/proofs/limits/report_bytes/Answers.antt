@@ -1,4 +1,4 @@
-use Rattle.std.proofs.Common.{◌≡◌, List, ℕ, length, ap, arith}
+use Rattle.std.proofs.Common.{List, ℕ, length, ap, arith}
 use Rattle.nest_client.proofs.Around.{one_layer_more}
 use Rattle.nest_client.proofs.limits.report_bytes.Goals as goal
 

@@ -1,4 +1,4 @@
-use Rattle.std.proofs.Common.{◌≡◌, ◌∙◌, ◌≤◌, ◌+◌, ◌-◌, ℕ, List, [], ◌∷◌, length, ap, sym, rules, arith}
+use Rattle.std.proofs.Common.{◌≡◌, ◌∙◌, ◌≤◌, ◌-◌, ℕ, List, ◌∷◌, length, ap, sym, rules, arith}
 use Rattle.report_frame.specs.declared.limits.TheConstants.{MIN_THRESHOLD}
 use Rattle.report_frame.specs.Versions.{max_threshold}
 use Rattle.nest_client.proofs.Layers.{frame_is, plain_is, last_is}
