@@ -22,7 +22,7 @@ sys.dont_write_bytecode = True
 sys.path[:0] = [HERE, os.path.join(HERE, "..", "definitions")]
 import formats
 import vectors
-from requests_of_tests import random_request
+from random_requests import random_request
 
 PAGE = os.path.join(HERE, "..", "..", "bindings", "web")
 CASES = 300

@@ -16,7 +16,7 @@ sys.dont_write_bytecode = True
 sys.path[:0] = [HERE, os.path.join(HERE, "..", "definitions"), os.path.join(HERE, "..", "..", "bindings", "python")]
 import star_client
 import vectors
-from requests_of_tests import random_request
+from random_requests import random_request
 
 STATUS = {fault: "status %d" % number for number, fault in star_client.FAULTS.items()}
 SEED = bytes(32)
