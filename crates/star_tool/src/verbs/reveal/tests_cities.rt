@@ -1,7 +1,8 @@
 // Two layers, and the workers that open their groups.
+use crate::tests_faults::{Case, bears_failing_takes};
 use crate::trial_streams::{
-    body_under, cities, first_context, frame, frame_of, made, push_record, push_rows, report_of,
-    resealed, told_by,
+    body_under, cities, first_context, frame, frame_of, made, made_stream, push_record, push_rows,
+    report_of, resealed, told_by,
 };
 use recovery_pool::{Gate, NoGate};
 use report_frame::Version;
@@ -97,6 +98,15 @@ fn a_body_counts_under_its_own_parent(rt: HostRuntime) -> Result<(), Fail> {
     let eleven = with_copies(alloc, &records, 11)?;
     let told = told_by(&rt, alloc, "reveal --epoch 7", &eleven, &NoGate)?;
     assert_eq!(rt; told.as_slice(), TOLD_WITH_ELEVEN_COPIES);
+    Ok(())
+}
+
+#[test]
+fn a_failing_take_tells_nothing_of_the_cities(rt: HostRuntime) -> Result<(), Fail> {
+    let alloc = rt.alloc();
+    let stream = made_stream(&rt, alloc, OPTIONS, &cities(alloc)?)?;
+    let case = Case::new("reveal --epoch 7", &stream, TOLD);
+    assert!(rt; bears_failing_takes(&rt, alloc, &case, 1000)?);
     Ok(())
 }
 
