@@ -20,6 +20,7 @@ import hostile
 SHIM = r"""
 #define _GNU_SOURCE
 #include <dlfcn.h>
+#include <errno.h>
 #include <stdatomic.h>
 #include <stdlib.h>
 #include <string.h>
@@ -57,7 +58,9 @@ __attribute__((constructor)) static void begin(void) {
 /* Whether this call is the one to refuse, which it then says to the script. */
 static int is_refused(void) {
     if (atomic_fetch_add(&calls, 1) + 1 != refused) return 0;
-    return write(told_to, "refused", 7) == 7;
+    if (write(told_to, "refused", 7) != 7) abort();
+    errno = ENOMEM;
+    return 1;
 }
 
 void *malloc(size_t size) {
