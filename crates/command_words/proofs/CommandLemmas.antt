@@ -7,6 +7,7 @@ use Rattle.command_words.specs.Numbers.{number_in}
 use Rattle.command_words.specs.Options.{Text, Pair, value_of}
 use Rattle.command_words.specs.Seed.{seed_of}
 use Rattle.command_words.specs.Thresholds.{thresholds_of}
+use Rattle.command_words.specs.Books.{epoch_of, book_of, merge_of, open_book_by, open_book_of}
 use Rattle.command_words.specs.Generate.{gen_by, gen_of, number_of, IsTrial}
 use Rattle.command_words.specs.Make.{make_by, make_of, version_of}
 use Rattle.command_words.specs.Reveal.{reveal_by, reveal_of}
@@ -17,7 +18,7 @@ use Rattle.recovery_pool.specs.declared.limits.TheConstants.{MAX_WORKERS}
 use Rattle.command_words.specs.Verb.{verb_of, command_by}
 use Rattle.command_words.specs.Words.{HasGoodOptions, command_of, command_with}
 use Rattle.command_words.specs.declared.command.Command.{Command}
-use Rattle.command_words.specs.declared.command.Command.TheVariants.{Check, Reveal, Make, Gen, SelfTest}
+use Rattle.command_words.specs.declared.command.Command.TheVariants.{Check, Reveal, Make, Gen, SelfTest, Book, Merge, OpenBook}
 use Rattle.report_frame.specs.declared.version.Version.{Version}
 use Rattle.command_words.specs.declared.verb.Verb.{Verb}
 use Rattle.command_words.specs.declared.verb.Verb.TheVariants as verb
@@ -79,6 +80,30 @@ reveal_of-good options command is =
     go (Some epoch) None good is = cc is
     go (Some epoch) (Some workers) good is = let it : Reveal epoch workers ≡ command = cc is in subst HasGoodOptions it (good workers refl)
 
+-- options of `book` and `merge` need be no better
+book_of-good : (options : List Pair) (command : Command) → book_of options ≡ Some command → HasGoodOptions command
+book_of-good options command is = go (epoch_of options) is
+  where
+    go : (epoch : Option ℕ) → option_map (λ e. Book e) epoch ≡ Some command → HasGoodOptions command
+    go None is = cc is
+    go (Some epoch) is = let it : Book epoch ≡ command = cc is in subst HasGoodOptions it tt
+
+merge_of-good : (options : List Pair) (command : Command) → merge_of options ≡ Some command → HasGoodOptions command
+merge_of-good options command is = go (epoch_of options) is
+  where
+    go : (epoch : Option ℕ) → option_map (λ e. Merge e) epoch ≡ Some command → HasGoodOptions command
+    go None is = cc is
+    go (Some epoch) is = let it : Merge epoch ≡ command = cc is in subst HasGoodOptions it tt
+
+-- options of `openbook` give good workers
+open_book_of-good : (options : List Pair) (command : Command) → open_book_of options ≡ Some command → HasGoodOptions command
+open_book_of-good options command is = go (epoch_of options) (workers_of options) (workers_of-good (value_of options (codes "workers"))) is
+  where
+    go : (epoch workers : Option ℕ) → ((n : ℕ) → workers ≡ Some n → AreWorkers n) → open_book_by epoch workers ≡ Some command → HasGoodOptions command
+    go None workers good is = cc is
+    go (Some epoch) None good is = cc is
+    go (Some epoch) (Some workers) good is = let it : OpenBook epoch workers ≡ command = cc is in subst HasGoodOptions it (good workers refl)
+
 -- options of `gen` give a good trial
 gen_of-good : (options : List Pair) (command : Command) → gen_of options ≡ Some command → HasGoodOptions command
 gen_of-good options command is =
@@ -132,6 +157,9 @@ verb-good verb.Reveal options command is = reveal_of-good options command is
 verb-good verb.Make options command is = make_of-good options command is
 verb-good verb.Gen options command is = gen_of-good options command is
 verb-good verb.SelfTest options command is = let it : SelfTest ≡ command = cc is in subst HasGoodOptions it tt
+verb-good verb.Book options command is = book_of-good options command is
+verb-good verb.Merge options command is = merge_of-good options command is
+verb-good verb.OpenBook options command is = open_book_of-good options command is
 
 -- and so does an answer
 pub answer-good : (verb : Verb) (options : Option (List Pair)) (answer : Result Command WordsError)

@@ -1,3 +1,4 @@
+pub mod Books
 pub mod Generate
 pub mod Numbers
 pub mod Options

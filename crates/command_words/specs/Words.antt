@@ -6,7 +6,7 @@ use Rattle.command_words.specs.Options.{Text, options_of}
 use Rattle.command_words.specs.Verb.{verb_of, names_of, command_by}
 use Rattle.command_words.specs.Workers.{AreWorkers}
 use Rattle.command_words.specs.declared.command.Command.{Command}
-use Rattle.command_words.specs.declared.command.Command.TheVariants.{Check, Reveal, Make, Gen, SelfTest}
+use Rattle.command_words.specs.declared.command.Command.TheVariants.{Check, Reveal, Make, Gen, SelfTest, Book, Merge, OpenBook}
 use Rattle.command_words.specs.declared.verb.Verb.{Verb}
 
 -- the command of a verb by the words after it, or none
@@ -25,3 +25,6 @@ HasGoodOptions (Reveal epoch workers) = AreWorkers workers
 HasGoodOptions (Make epoch version thresholds seed) = AreThresholds version thresholds
 HasGoodOptions (Gen number reports liars workers) = IsTrial reports liars × AreWorkers workers
 HasGoodOptions SelfTest = ⊤
+HasGoodOptions (Book epoch) = ⊤
+HasGoodOptions (Merge epoch) = ⊤
+HasGoodOptions (OpenBook epoch workers) = AreWorkers workers

@@ -44,6 +44,16 @@ pub enum Command {
     },
     /// Computes the vectors of the self test, and prints a line for each.
     SelfTest,
+    /// Reads a stream of records, and writes their book for an epoch.
+    Book { epoch: u32 },
+    /// Reads books of an epoch, and writes their sum.
+    Merge { epoch: u32 },
+    /// Reads books of an epoch, and prints what the records of their sum tell.
+    OpenBook {
+        epoch: u32,
+        /// As those of `Reveal`.
+        workers: u32,
+    },
 }
 
 /// Why words give no command.

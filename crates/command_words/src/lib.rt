@@ -1,6 +1,7 @@
 //! The words of the command line, and the commands that they ask for.
 #![tactic(auto)]
 
+mod books;
 mod command;
 mod generate;
 pub mod laws;

@@ -154,10 +154,23 @@ const FAULTY_TRIALS: [&str; 41] = [
     "gen 7 1 0",
 ];
 
+// The same of the verbs on books.
+const FAULTY_BOOKS: [&str; 9] = [
+    "book",
+    "book --epoch 4294967296",
+    "book --epoch 7 --workers 2",
+    "book --epoch 7 x",
+    "merge",
+    "merge --epoch 7 --workers 2",
+    "openbook --workers 2",
+    "openbook --epoch 7 --workers 65",
+    "open-book --epoch 7",
+];
+
 #[test]
 fn faulty_words_are_a_fault_of_usage(rt: HostRuntime) -> Result<(), Fail> {
     let alloc = rt.alloc();
-    for line in FAULTY_LINES.iter().chain(&FAULTY_TRIALS) {
+    for line in FAULTY_LINES.iter().chain(&FAULTY_TRIALS).chain(&FAULTY_BOOKS) {
         assert_eq!(rt; read(alloc, line)?, Err(WordsError::Usage), "{line}");
     }
     Ok(())
@@ -227,6 +240,23 @@ fn options_of_gen(rt: HostRuntime) -> Result<(), Fail> {
             liars,
             workers,
         };
+        assert_eq!(rt; read(alloc, line)?, Ok(wanted), "{line}");
+    }
+    Ok(())
+}
+
+#[test]
+fn options_of_books(rt: HostRuntime) -> Result<(), Fail> {
+    let alloc = rt.alloc();
+    let book = Command::Book { epoch: 7 };
+    assert_eq!(rt; read(alloc, "book --epoch=007")?, Ok(book));
+    let merge = Command::Merge { epoch: 4294967295 };
+    assert_eq!(rt; read(alloc, "merge --epoch 4294967295")?, Ok(merge));
+    for (line, workers) in [
+        ("openbook --epoch 7", 4),
+        ("openbook --workers 64 --epoch=7", 64),
+    ] {
+        let wanted = Command::OpenBook { epoch: 7, workers };
         assert_eq!(rt; read(alloc, line)?, Ok(wanted), "{line}");
     }
     Ok(())

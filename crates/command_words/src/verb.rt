@@ -3,6 +3,7 @@ ghost use Rattle.std.specs.Prelude.{◌≡◌};
 ghost use Rattle.command_words.specs.Options.{texts_of};
 ghost use Rattle.command_words.specs.Verb.{verb_of, names_of, command_by};
 
+use crate::books::{book_of, merge_of, open_book_of};
 use crate::command::Command;
 use crate::generate::gen_of;
 use crate::make::make_of;
@@ -17,6 +18,9 @@ pub enum Verb {
     Make,
     Gen,
     SelfTest,
+    Book,
+    Merge,
+    OpenBook,
 }
 
 // The names of the options of a verb that stands alone.
@@ -31,6 +35,12 @@ const MAKE_NAMES: [&str; 4] = ["epoch", "version", "thresholds", "seed"];
 // The names of the options of `gen`.
 const GEN_NAMES: [&str; 4] = ["number", "reports", "liars", "workers"];
 
+// The names of the options of `book`, and those of `merge`.
+const BOOK_NAMES: [&str; 1] = ["epoch"];
+
+// The names of the options of `openbook`.
+const OPEN_BOOK_NAMES: [&str; 2] = ["epoch", "workers"];
+
 impl Verb {
     /// The verb of a word.
     pub fn of(word: &str) -> Option<Verb>
@@ -42,6 +52,9 @@ impl Verb {
             "make" => Some(Verb::Make),
             "gen" => Some(Verb::Gen),
             "selftest" => Some(Verb::SelfTest),
+            "book" => Some(Verb::Book),
+            "merge" => Some(Verb::Merge),
+            "openbook" => Some(Verb::OpenBook),
             _ => None,
         }
     }
@@ -56,6 +69,9 @@ impl Verb {
             Verb::Make => &MAKE_NAMES,
             Verb::Gen => &GEN_NAMES,
             Verb::SelfTest => &NO_NAMES,
+            Verb::Book => &BOOK_NAMES,
+            Verb::Merge => &BOOK_NAMES,
+            Verb::OpenBook => &OPEN_BOOK_NAMES,
         }
     }
 
@@ -69,6 +85,9 @@ impl Verb {
             Verb::Make => make_of(options),
             Verb::Gen => gen_of(options),
             Verb::SelfTest => Some(Command::SelfTest),
+            Verb::Book => book_of(options),
+            Verb::Merge => merge_of(options),
+            Verb::OpenBook => open_book_of(options),
         }
     }
 }
