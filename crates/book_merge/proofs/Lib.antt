@@ -1,0 +1,6 @@
+pub mod Gathered
+pub mod BookReveals
+pub mod Readings
+pub mod Sums
+pub mod Dropped
+pub mod Meaning
