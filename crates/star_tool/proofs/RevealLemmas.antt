@@ -29,13 +29,13 @@ use Rattle.star_tool.proofs.StreamLemmas.{stream_good}
 abbrev pub IsRevealOf : WalkView → Revealed → Type 0
 IsRevealOf walk told = (records : List Record) → StandsFor walk records → told ≡ reveal_of walk.epoch records
 
-told_is : (walk : WalkView) (told : Revealed) (epoch : ℕ) (records : List Record) → walk.epoch ≡ epoch → IsRevealOf walk told → StandsFor walk records → told ≡ reveal_of epoch records
+pub told_is : (walk : WalkView) (told : Revealed) (epoch : ℕ) (records : List Record) → walk.epoch ≡ epoch → IsRevealOf walk told → StandsFor walk records → told ≡ reveal_of epoch records
 told_is walk told epoch records is tells stands = tells records stands ∙ ap (λ (e : ℕ). reveal_of e records) is
 
 -- ---- `reveal`
 
 -- the text of what all records tell is the output
-pub reveal_made : (epoch workers : ℕ) (input coins : Seen) (walk : WalkView) (told : Revealed) (text : List ℕ) → walk.epoch ≡ epoch → StandsForAll walk input.left input.left_after → IsRevealOf walk told
+pub reveal_made : (epoch workers : ℕ) (input coins : Seen) (walk : WalkView) (told : Revealed) (text : List ℕ) → walk.epoch ≡ epoch → StandsForAll (StandsFor walk) input.left input.left_after → IsRevealOf walk told
     → text ≡ text_of told → IsOutput (Reveal epoch workers) input coins text
 reveal_made epoch workers input coins walk told text is all tells made = λ bytes here.
     let read = all bytes here in

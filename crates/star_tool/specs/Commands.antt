@@ -1,12 +1,16 @@
 -- The commands: what each reads and draws, why it refuses an input, and what its output is.
 use Rattle.std.specs.Prelude.{ℕ, List, Bool, true, false, Option, None, is_none}
 use Rattle.command_words.specs.declared.command.Command.{Command}
-use Rattle.command_words.specs.declared.command.Command.TheVariants.{Check, Reveal, Make, Gen, SelfTest}
+use Rattle.command_words.specs.declared.command.Command.TheVariants.{Check, Reveal, Make, Gen, SelfTest, Book, Merge, OpenBook}
 use Rattle.star_tool.specs.declared.status.Status.{Status}
 use Rattle.star_tool.specs.StreamInput.{stream_refusal, stream_rest}
+use Rattle.book_merge.specs.Merging.{merge_rest}
+use Rattle.star_tool.specs.Verbs.Book.{book_output}
 use Rattle.star_tool.specs.Verbs.Check.{check_output}
 use Rattle.star_tool.specs.Verbs.Generate.{gen_output}
 use Rattle.star_tool.specs.Verbs.Make.{make_refusal, make_rest, make_output}
+use Rattle.star_tool.specs.Verbs.Merge.{merge_refusal, merge_output}
+use Rattle.star_tool.specs.Verbs.OpenBook.{open_book_output}
 use Rattle.star_tool.specs.Verbs.Reveal.{reveal_output}
 use Rattle.star_tool.specs.Verbs.SelfTest.{self_test_refusal, self_test_output}
 
@@ -17,6 +21,9 @@ reads (Reveal epoch workers) = true
 reads (Make epoch version thresholds given) = true
 reads (Gen number reports liars workers) = false
 reads SelfTest = false
+reads (Book epoch) = true
+reads (Merge epoch) = true
+reads (OpenBook epoch workers) = true
 
 -- the command draws a seed of the coins
 abbrev pub draws : Command → Bool
@@ -25,6 +32,9 @@ draws (Reveal epoch workers) = false
 draws (Make epoch version thresholds given) = is_none given
 draws (Gen number reports liars workers) = false
 draws SelfTest = false
+draws (Book epoch) = false
+draws (Merge epoch) = false
+draws (OpenBook epoch workers) = false
 
 -- why these bytes of the input give no output, if so
 abbrev pub refusal_of : Command → (bytes : List ℕ) → Option Status
@@ -33,6 +43,9 @@ refusal_of (Reveal epoch workers) bytes = stream_refusal bytes
 refusal_of (Make epoch version thresholds given) bytes = make_refusal version thresholds bytes
 refusal_of (Gen number reports liars workers) bytes = None
 refusal_of SelfTest bytes = self_test_refusal
+refusal_of (Book epoch) bytes = stream_refusal bytes
+refusal_of (Merge epoch) bytes = merge_refusal epoch bytes
+refusal_of (OpenBook epoch workers) bytes = merge_refusal epoch bytes
 
 -- what is left of these bytes where the command refused them
 abbrev pub rest_of : Command → (bytes : List ℕ) → List ℕ
@@ -41,6 +54,9 @@ rest_of (Reveal epoch workers) bytes = stream_rest bytes
 rest_of (Make epoch version thresholds given) bytes = make_rest bytes
 rest_of (Gen number reports liars workers) bytes = bytes
 rest_of SelfTest bytes = bytes
+rest_of (Book epoch) bytes = stream_rest bytes
+rest_of (Merge epoch) bytes = merge_rest bytes
+rest_of (OpenBook epoch workers) bytes = merge_rest bytes
 
 -- the whole output for these bytes, and for the seed that was drawn
 abbrev pub output_of : Command → (bytes seed : List ℕ) → List ℕ
@@ -49,3 +65,6 @@ output_of (Reveal epoch workers) bytes seed = reveal_output epoch bytes
 output_of (Make epoch version thresholds given) bytes seed = make_output epoch version thresholds given bytes seed
 output_of (Gen number reports liars workers) bytes seed = gen_output number reports liars
 output_of SelfTest bytes seed = self_test_output
+output_of (Book epoch) bytes seed = book_output epoch bytes
+output_of (Merge epoch) bytes seed = merge_output epoch bytes
+output_of (OpenBook epoch workers) bytes seed = open_book_output epoch bytes

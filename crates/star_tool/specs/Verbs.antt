@@ -1,6 +1,9 @@
 -- The verbs, each in its own file.
+pub mod Book
 pub mod Check
 pub mod Generate
 pub mod Make
+pub mod Merge
+pub mod OpenBook
 pub mod Reveal
 pub mod SelfTest

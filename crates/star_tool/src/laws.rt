@@ -1,6 +1,6 @@
-//! Laws of the commands: what a refusal of their input means, and what `reveal` and `gen` tell. Each
+//! Laws of the commands: what a refusal of their input means, and what they tell. Each
 //! function does nothing: its clauses are facts about the definitions that the contract of `run` cites.
-ghost use Rattle.std.specs.Prelude.{◌≡◌, ◌↔◌, ℕ, List, Option, None, Some};
+ghost use Rattle.std.specs.Prelude.{◌≡◌, ◌↔◌, ℕ, List, Option, None, Some, Ok, Err};
 ghost use Rattle.star_io.specs.Bytes.{AreBytes};
 ghost use Rattle.star_io.specs.RecordLists.{HasMoreThan, stream_records};
 ghost use Rattle.star_io.specs.declared.record.TheConstants.{MAX_RECORDS};
@@ -10,9 +10,16 @@ ghost use Rattle.layer_walk.specs.Reveal.{reveal_of};
 ghost use Rattle.reveal_report.specs.RevealText.{text_of, summary_of};
 ghost use Rattle.star_vectors.specs.Comparison.{first_differing};
 ghost use Rattle.star_vectors.specs.Vectors.{vectors};
+ghost use Rattle.book_file.specs.Book.{Book};
+ghost use Rattle.book_file.specs.BookOf.{book_of};
+ghost use Rattle.book_file.specs.Spelling.{spelling};
+ghost use Rattle.book_merge.specs.Merging.{merged};
+ghost use Rattle.book_merge.specs.Records.{records_of};
+ghost use Rattle.book_merge.specs.declared.fault.MergeFault.{MergeFault};
 ghost use Rattle.command_words.specs.declared.command.Command.{Command};
-ghost use Rattle.command_words.specs.declared.command.Command.TheVariants.{Check, Reveal, Make, Gen, SelfTest};
+ghost use Rattle.command_words.specs.declared.command.Command.TheVariants.{Check, Reveal, Make, Gen, SelfTest, Book as BookCommand, Merge, OpenBook};
 ghost use Rattle.star_tool.specs.Commands.{refusal_of, output_of};
+ghost use Rattle.star_tool.specs.Status.{fault_status};
 ghost use Rattle.star_tool.specs.Verbs.Make.{HasTooMuch, HasBadCell, IsTableText};
 ghost use Rattle.star_tool.specs.declared.status.Status.{Status};
 ghost use Rattle.star_tool.specs.declared.verbs.make.TheConstants.{MAX_TABLE_BYTES};
@@ -67,6 +74,36 @@ pub fn self_test_refuses()
         refusal_of SelfTest bytes ≡ Some (Status.BadVector number got wanted) }
     ensures good { (bytes : List ℕ) →
         first_differing vectors ≡ None → refusal_of SelfTest bytes ≡ None }
+{}
+
+/// `book` refuses exactly the streams that `check` refuses. Its output is the book of the records.
+#[tactic(auto, using(crate::proofs::StreamLemmas::too_many_means, crate::proofs::StreamLemmas::too_many_only))]
+pub fn book_tells()
+    ensures too_many { (epoch : ℕ) (bytes : List ℕ) → AreBytes bytes →
+        (refusal_of (BookCommand epoch) bytes ≡ Some Status.TooMany) ↔ HasMoreThan MAX_RECORDS bytes }
+    ensures only { (epoch : ℕ) (bytes : List ℕ) (status : Status) →
+        refusal_of (BookCommand epoch) bytes ≡ Some status → status ≡ Status.TooMany }
+    ensures bytes { (epoch : ℕ) (bytes seed : List ℕ) →
+        output_of (BookCommand epoch) bytes seed ≡ spelling (book_of epoch (stream_records bytes)) }
+{}
+
+/// `merge` refuses what has no sum of books, and says why; else its output is the sum.
+pub fn merge_tells()
+    ensures fault { (epoch : ℕ) (bytes : List ℕ) (fault : MergeFault) → merged epoch bytes ≡ Err fault →
+        refusal_of (Merge epoch) bytes ≡ Some (fault_status fault) }
+    ensures good { (epoch : ℕ) (bytes : List ℕ) (sum : Book) → merged epoch bytes ≡ Ok sum →
+        refusal_of (Merge epoch) bytes ≡ None }
+    ensures sum { (epoch : ℕ) (bytes seed : List ℕ) (sum : Book) → merged epoch bytes ≡ Ok sum →
+        output_of (Merge epoch) bytes seed ≡ spelling sum }
+{}
+
+/// `openbook` refuses what `merge` refuses; else its output is the text of what the records of the sum
+/// tell, whatever the number of workers.
+pub fn open_book_tells()
+    ensures refused { (epoch workers : ℕ) (bytes : List ℕ) →
+        refusal_of (OpenBook epoch workers) bytes ≡ refusal_of (Merge epoch) bytes }
+    ensures text { (epoch workers : ℕ) (bytes seed : List ℕ) (sum : Book) → merged epoch bytes ≡ Ok sum →
+        output_of (OpenBook epoch workers) bytes seed ≡ text_of (reveal_of epoch (records_of sum)) }
 {}
 
 /// The limits in plain numbers.

@@ -1,6 +1,7 @@
 //! A tool for streams of reports.
 #![tactic(auto)]
 
+mod book_walk;
 mod check_text;
 mod coins;
 mod feed;
@@ -94,5 +95,7 @@ mod tests_faults;
 mod tests_levels;
 #[cfg(test)]
 mod tests_walk;
+#[cfg(test)]
+mod trial_books;
 #[cfg(test)]
 mod trial_streams;

@@ -12,9 +12,12 @@ ghost use Rattle.star_tool.specs.declared.status.Status.{Status};
 
 use crate::output::tell;
 use crate::status::Status;
+use crate::verbs::book::book_output;
 use crate::verbs::check::check_output;
 use crate::verbs::generate::gen_output;
 use crate::verbs::make::make_output;
+use crate::verbs::merge::merge_output;
+use crate::verbs::open_book::open_book_output;
 use crate::verbs::reveal::reveal_output;
 use crate::verbs::self_test::self_test_output;
 use command_words::{Command, Words, WordsError, words_of};
@@ -178,5 +181,10 @@ fn answer_of<R: Threads + Sync, S: Source, C: Source, G: Gate>(
             workers,
         } => gen_output(rt, alloc, number, reports, liars, workers, gate),
         Command::SelfTest => self_test_output(alloc),
+        Command::Book { epoch } => book_output(alloc, epoch, input),
+        Command::Merge { epoch } => merge_output(alloc, epoch, input),
+        Command::OpenBook { epoch, workers } => {
+            open_book_output(rt, alloc, epoch, workers, input, gate)
+        }
     }
 }

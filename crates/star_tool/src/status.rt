@@ -1,9 +1,12 @@
 // How a run ends, as its number and its line.
 ghost use Rattle.std.specs.Prelude.{◌≡◌, ◌++◌, IfOk, codes};
 ghost use Rattle.std.specs.Fmt.{decimal};
+ghost use Rattle.book_file.specs.Names.{name_of};
 ghost use Rattle.star_tool.specs.Status.{number_of, line_of};
 
-use crate::verbs::{check, generate, make, reveal, self_test};
+use crate::verbs::{book, check, generate, make, merge, open_book, reveal, self_test};
+use book_file::BookKind;
+use book_merge::{MergeError, MergeFault};
 use client_table::TableError;
 use star_io::{InputError, NoMemory};
 use star_vectors::SelfTestError;
@@ -40,6 +43,18 @@ pub enum Status {
         got: [u8; 32],
         wanted: [u8; 32],
     },
+    /// The bytes behind so many books are no book, and not empty: what is wrong, and where the faulty field
+    /// starts, counted from the front of these bytes.
+    BadBook {
+        book: u32,
+        kind: BookKind,
+        at: u64,
+    },
+    /// The book of this number is of another epoch, which it is. Books are counted from 0.
+    BookEpoch {
+        book: u32,
+        have: u32,
+    },
 }
 
 /// The exit status of the process.
@@ -56,6 +71,8 @@ pub fn status_number(status: &Status) -> u8
         Status::BadTable { .. } => 7,
         Status::ShortCoins { .. } => 8,
         Status::BadVector { .. } => 9,
+        Status::BadBook { .. } => 10,
+        Status::BookEpoch { .. } => 11,
     }
 }
 
@@ -111,6 +128,27 @@ impl From<SelfTestError> for Status {
     }
 }
 
+impl From<MergeError> for Status {
+    ghost use Rattle.std.specs.Prelude.{◌≡◌};
+    ghost use Rattle.star_tool.specs.Status.{merge_status};
+
+    ghost from_gives = { λ error status. status ≡ merge_status error };
+
+    fn from(error: MergeError) -> Self {
+        match error {
+            MergeError::Read => Status::ReadFault,
+            MergeError::Fault(MergeFault::TooMany) => Status::TooMany,
+            MergeError::Fault(MergeFault::BadBook { book, kind, at }) => {
+                Status::BadBook { book, kind, at }
+            }
+            MergeError::Fault(MergeFault::BookEpoch { book, have }) => {
+                Status::BookEpoch { book, have }
+            }
+            MergeError::NoMemory => Status::NoMemory,
+        }
+    }
+}
+
 impl From<NoMemory> for Status {
     ghost use Rattle.std.specs.Prelude.{◌≡◌};
     ghost use Rattle.star_tool.specs.declared.status.Status.TheVariants as variant;
@@ -136,6 +174,8 @@ pub fn status_line(alloc: Global, status: &Status) -> Result<Vec<u8>, NoMemory>
         Status::BadTable { row, column } => return bad_table_line(alloc, *row, *column),
         Status::ShortCoins { have } => return short_coins_line(alloc, *have),
         Status::BadVector { number, .. } => return bad_vector_line(alloc, *number),
+        Status::BadBook { book, kind, at } => return bad_book_line(alloc, *book, *kind, *at),
+        Status::BookEpoch { book, have } => return book_epoch_line(alloc, *book, *have),
     };
     let bytes = Vec::from_slice(alloc, line.as_bytes())?;
     Ok(bytes)
@@ -148,12 +188,15 @@ fn usage_line(alloc: Global) -> Result<Vec<u8>, NoMemory>
     let mut line = String::new(alloc);
     write!(
         line,
-        "usage: star_tool {} | {} | {} | {} | {}\n",
+        "usage: star_tool {} | {} | {} | {} | {} | {} | {} | {}\n",
         check::USAGE,
         reveal::USAGE,
         make::USAGE,
         generate::USAGE,
-        self_test::USAGE
+        self_test::USAGE,
+        book::USAGE,
+        merge::USAGE,
+        open_book::USAGE
     )?;
     Ok(line.into_bytes())
 }
@@ -179,5 +222,21 @@ fn bad_vector_line(alloc: Global, number: u8) -> Result<Vec<u8>, NoMemory>
 {
     let mut line = String::new(alloc);
     write!(line, "vector {number} differs\n")?;
+    Ok(line.into_bytes())
+}
+
+fn bad_book_line(alloc: Global, book: u32, kind: BookKind, at: u64) -> Result<Vec<u8>, NoMemory>
+    ensures { IfOk result (λ line. line.items ≡ codes "bad book " ++ decimal book ++ codes ": " ++ name_of kind ++ codes " " ++ decimal at ++ codes "\n") }
+{
+    let mut line = String::new(alloc);
+    write!(line, "bad book {book}: {kind} {at}\n")?;
+    Ok(line.into_bytes())
+}
+
+fn book_epoch_line(alloc: Global, book: u32, have: u32) -> Result<Vec<u8>, NoMemory>
+    ensures { IfOk result (λ line. line.items ≡ codes "book " ++ decimal book ++ codes ": epoch " ++ decimal have ++ codes "\n") }
+{
+    let mut line = String::new(alloc);
+    write!(line, "book {book}: epoch {have}\n")?;
     Ok(line.into_bytes())
 }

@@ -1,4 +1,5 @@
 use crate::{FileSource, Status, Words, run, status_line, status_number};
+use book_file::BookKind;
 use recovery_pool::NoGate;
 use star_io::{FailAt, Failed, MemorySink, MemorySource, NoMemory, Source};
 use std::alloc::{AllocError, Global};
@@ -298,7 +299,7 @@ fn each_status_has_its_number_and_line(rt: HostRuntime) -> Result<(), Fail> {
         (
             Status::Usage,
             2,
-            "usage: star_tool check | reveal --epoch E [--workers W] | make --epoch E --thresholds K,.. [--seed HEX] [--version V] | gen --number N --reports R --liars L [--workers W] | selftest\n",
+            "usage: star_tool check | reveal --epoch E [--workers W] | make --epoch E --thresholds K,.. [--seed HEX] [--version V] | gen --number N --reports R --liars L [--workers W] | selftest | book --epoch E | merge --epoch E | openbook --epoch E [--workers W]\n",
         ),
         (Status::ReadFault, 3, "read fault\n"),
         (Status::WriteFault, 4, "write fault\n"),
@@ -322,6 +323,20 @@ fn each_status_has_its_number_and_line(rt: HostRuntime) -> Result<(), Fail> {
             },
             9,
             "vector 5 differs\n",
+        ),
+        (
+            Status::BadBook {
+                book: 3,
+                kind: BookKind::Truncated,
+                at: 17,
+            },
+            10,
+            "bad book 3: Truncated 17\n",
+        ),
+        (
+            Status::BookEpoch { book: 3, have: 2 },
+            11,
+            "book 3: epoch 2\n",
         ),
     ];
     for (status, number, line) in cases {
