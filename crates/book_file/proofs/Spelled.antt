@@ -1,6 +1,6 @@
 -- Bytes begin with a book and its spelling, or have one fault.
 use Rattle.std.proofs.Common.{◌≡◌, ℕ, zero, suc, ◌+◌, ◌^◌, ◌<◌, ◌≤◌, Bool, true, false, cond, List, [], ◌∷◌, ◌++◌, ◌⊎◌, inl, inr, Option, Some, None, Result, Ok, Err, length, take, drop, refl, sym, ap, ap₂, ◌∙◌, subst, arith, length-append, append_assoc, eqb-true}
-use Rattle.std.specs.Prelude.{nat_lt, not, All, sum, ◌==◌, ◌||◌}
+use Rattle.std.specs.Prelude.{is_ok, nat_lt, not, All, sum, ◌==◌, ◌||◌}
 use Rattle.std.specs.Int.{w16, w32, to_be_bytes, from_be_bytes}
 use Rattle.std.specs.List.{flat_map}
 use Rattle.std.specs.List.Sorted.{IsStrictlySortedBy}
@@ -22,6 +22,7 @@ use Rattle.book_file.specs.declared.book_error.BadBook.{BadBook}
 use Rattle.book_file.specs.declared.book_error.ReadBook.{ReadBook}
 use Rattle.star_io.specs.Bytes.{AreBytes}
 use Rattle.star_io.proofs.ByteLists.{AreBytes-get_or, AreBytes-append_left, AreBytes-append_right}
+use Rattle.std.proofs.Math.Seq.{drop-append_seam}
 use Rattle.std.proofs.lemmas.Option.{none-some}
 use Rattle.book_file.specs.Book.{Entry, Book, IsBook, IsBookOf, is_outer_frame, total_of}
 use Rattle.book_file.specs.Spelling.{entry_bytes, spelling, Begins}
@@ -146,8 +147,7 @@ one_fault bytes bad is kind at h =
 -- bytes that begin with a book have none
 pub no_fault : (bytes : List ℕ) (found : ReadBook) → read_of bytes ≡ Ok found → (kind : BookKind) (at : ℕ) → FaultAt bytes kind at → ⊥
 no_fault bytes found is kind at h =
-    let wrong = read_wrong bytes kind at h in
-    let no : Ok found ≡ Err (record { kind = kind; at = at; used = wrong.0 }) = sym is ∙ wrong.1 in
+    let no : true ≡ false = ap is_ok (sym is ∙ (read_wrong bytes kind at h).1) in
     cc
 
 -- no bytes are cut short
@@ -389,3 +389,27 @@ read_spelling bytes found small is =
       record { is_book = back.0; spelt = gave.2 ∙ ap (λ l. l ++ gave.1) spelt },
       (let used : found.used ≡ length (joined gave.0) = omega (arith, gave.3) in used ∙ ap length spelt),
     )
+
+-- ---- what an answer says of the books with which bytes begin
+
+-- the book in an answer
+abbrev book_in : Book → Result ReadBook BadBook → Book
+book_in other (Ok found) = found.book
+book_in other (Err bad) = other
+
+-- no other book
+pub only_book : (bytes : List ℕ) (found : ReadBook) → read_of bytes ≡ Ok found → (book : Book) (rest : List ℕ) → Begins book bytes rest → found.book ≡ book
+only_book bytes found is book rest h = ap (book_in book) (sym is ∙ spelling_read book bytes rest h)
+
+-- none at all
+pub no_book : (bytes : List ℕ) (bad : BadBook) → read_of bytes ≡ Err bad → (book : Book) (rest : List ℕ) → Begins book bytes rest → ⊥
+no_book bytes bad is book rest h =
+    let no : false ≡ true = ap is_ok (sym is ∙ spelling_read book bytes rest h) in
+    cc
+
+-- what is read begins the bytes, and the rest is behind it
+pub begins_at : (bytes : List ℕ) (found : ReadBook) → AreBytes bytes → read_of bytes ≡ Ok found → Begins found.book bytes (drop found.used bytes)
+begins_at bytes found small is =
+    let spelt = read_spelling bytes found small is in
+    let behind : drop found.used bytes ≡ spelt.0 = ap₂ (λ (n : ℕ) (l : List ℕ). drop n l) spelt.2 spelt.1.spelt ∙ drop-append_seam (spelling found.book) spelt.0 in
+    subst (Begins found.book bytes) (sym behind) spelt.1

@@ -16,7 +16,13 @@ use std::alloc::Global;
 pub fn read_book(alloc: Global, bytes: &[u8]) -> Result<ReadBook, BookError>
     ensures reads { Reads bytes.now result }
 
-    // What isn't read is the one fault of these bytes.
+    // Unless memory runs out, Ok comes exactly where the bytes begin with a book.
+    ensures found { IfOk result (λ r. Begins r.book bytes.now (drop r.used bytes.now)) }
+    ensures used { IfOk result (λ r. r.used ≡ length (spelling r.book)) }
+    ensures only { (book : Book) (rest : List ℕ) → Begins book bytes.now rest →
+        (result ≡ Err BookError.NoMemory) ⊎ IsOkAnd result (λ r. r.book ≡ book) }
+
+    // Else it is the one fault of these bytes.
     ensures fault { IfErr result (HasFault bytes.now) }
     ensures one { (kind : BookKind) (at : ℕ) → FaultAt bytes.now kind at →
         (result ≡ Err BookError.NoMemory) ⊎ (result ≡ Err (BookError.Bad kind at)) }

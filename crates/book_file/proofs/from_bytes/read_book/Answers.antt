@@ -1,7 +1,8 @@
 use Rattle.std.proofs.Common.{◌≡◌, ap, inr, Some, Err}
+use Rattle.star_io.proofs.ByteLists.{AreBytes-from_fits}
 use Rattle.book_file.specs.declared.book_kind.BookKind.TheVariants.{Truncated}
 use Rattle.book_file.specs.declared.book_error.BookError.TheVariants.{Bad}
-use Rattle.book_file.proofs.Spelled.{read_fault, one_fault, no_fault, taken_some, taken_none, taken_bad}
+use Rattle.book_file.proofs.Spelled.{begins_at, read_spelling, only_book, no_book, read_fault, one_fault, no_fault, taken_some, taken_none, taken_bad}
 use Rattle.book_file.proofs.from_bytes.read_book.Goals as goal
 
 pub returns-in-Ok-Some-clause-reads : goal.returns-in-Ok-Some-clause-reads
@@ -31,3 +32,18 @@ pub returns-in-Err-Bad-clause-one : goal.returns-in-Err-Bad-clause-one
 returns-in-Err-Bad-clause-one c = λ kind at h.
     let same = one_fault c.args.bytes.now (record { kind = c.in-Err-Bad.bad.kind; at = c.in-Err-Bad.bad.at; used = (returns-in-Err-Bad-clause-reads c).0 }) (returns-in-Err-Bad-clause-reads c).1 kind at h in
     inr (λ i. Err (Bad (same.0 i) (same.1 i)))
+
+pub returns-in-Ok-Some-clause-found : goal.returns-in-Ok-Some-clause-found
+returns-in-Ok-Some-clause-found c = begins_at c.args.bytes.now c.in-Ok-Some.found (AreBytes-from_fits c.args.bytes.now c.type_inv.bytes) (returns-in-Ok-Some-clause-reads c)
+
+pub returns-in-Ok-Some-clause-used : goal.returns-in-Ok-Some-clause-used
+returns-in-Ok-Some-clause-used c = (read_spelling c.args.bytes.now c.in-Ok-Some.found (AreBytes-from_fits c.args.bytes.now c.type_inv.bytes) (returns-in-Ok-Some-clause-reads c)).2
+
+pub returns-in-Ok-Some-clause-only : goal.returns-in-Ok-Some-clause-only
+returns-in-Ok-Some-clause-only c = λ book rest h. inr (only_book c.args.bytes.now c.in-Ok-Some.found (returns-in-Ok-Some-clause-reads c) book rest h)
+
+pub returns-in-Ok-None-clause-only : goal.returns-in-Ok-None-clause-only
+returns-in-Ok-None-clause-only c = λ book rest h. absurd (no_book c.args.bytes.now (record { kind = Truncated; at = 0; used = (returns-in-Ok-None-clause-reads c).0 }) (returns-in-Ok-None-clause-reads c).1 book rest h)
+
+pub returns-in-Err-Bad-clause-only : goal.returns-in-Err-Bad-clause-only
+returns-in-Err-Bad-clause-only c = λ book rest h. absurd (no_book c.args.bytes.now (record { kind = c.in-Err-Bad.bad.kind; at = c.in-Err-Bad.bad.at; used = (returns-in-Err-Bad-clause-reads c).0 }) (returns-in-Err-Bad-clause-reads c).1 book rest h)
