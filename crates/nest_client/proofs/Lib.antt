@@ -1,4 +1,4 @@
-mod Layers
+pub mod Layers
 mod Records
-mod Held
+pub mod Held
 mod Around
