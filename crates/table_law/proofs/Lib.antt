@@ -1,0 +1,17 @@
+pub mod Lists
+pub mod Joined
+pub mod PathOrder
+pub mod Frames
+pub mod FrontLaws
+pub mod Held
+pub mod Placed
+pub mod OneLevel
+pub mod WholeTable
+pub mod FirstPlaces
+pub mod RowPlaces
+pub mod FrontMarks
+pub mod Growing
+pub mod ClearLaws
+pub mod Marks
+pub mod Contexts
+pub mod ClearTest

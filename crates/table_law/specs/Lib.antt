@@ -1,0 +1,6 @@
+pub mod Prefixes
+pub mod Fronts
+pub mod Layers
+pub mod Clear
+pub mod Marks
+pub mod Reveals

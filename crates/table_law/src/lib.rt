@@ -1,0 +1,24 @@
+//! What the stream of a table tells: the prefixes that enough of its rows begin with, where its
+//! reports don't come in each other's way.
+//!
+//! `specs/` has the prefixes in Prefixes, the layers of a row's report in Layers, and in Clear what
+//! two reports must not share; `laws` has what follows from them.
+#![tactic(auto)]
+
+mod clear;
+mod counts;
+mod derived;
+mod expecting;
+mod firsts;
+mod fronts;
+mod heads;
+pub mod laws;
+mod points;
+mod prefixes;
+mod sorted;
+
+pub use clear::is_clear;
+pub use expecting::expected;
+
+#[cfg(test)]
+mod tests;
