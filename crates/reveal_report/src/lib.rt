@@ -8,10 +8,12 @@ mod escape;
 mod line;
 mod lines;
 mod names;
+mod opened;
 mod paths;
 mod summary;
 mod text;
 
+pub use opened::open_lines;
 pub use summary::summary_of;
 pub use text::text_of;
 
