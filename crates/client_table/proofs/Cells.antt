@@ -1,9 +1,11 @@
 -- The cells of a record, and where it is bad.
-use Rattle.std.proofs.Common.{◌≡◌, ◌∙◌, ◌<◌, ◌≤◌, ◌||◌, ◌==◌, ◌+◌, ℕ, zero, suc, true, false, List, [], ◌∷◌, ◌++◌, length, take, get_or, Option, Some, None, refl, ap, sym, arith, inl, inr}
+use Rattle.std.proofs.Common.{◌≡◌, ◌∙◌, ◌<◌, ◌≤◌, ◌||◌, ◌==◌, ◌+◌, ℕ, zero, suc, Bool, true, false, List, [], ◌∷◌, ◌++◌, length, take, get_or, Option, Some, None, refl, ap, sym, subst, arith, inl, inr, eq-eqb}
 use Rattle.std.specs.Prelude.{nat_lt, is_some}
-use Rattle.std.proofs.lemmas.Bool.{cases_lt, le-ltb}
+use Rattle.std.proofs.lemmas.Bool.{cases_lt, le-ltb, lt-ltb}
 use Rattle.std.proofs.lemmas.Bool.Decides.{nat_tests}
+use Rattle.report_frame.specs.declared.limits.TheConstants.{MAX_VALUE}
 use Rattle.report_frame.specs.declared.version.Version.{Version}
+use Rattle.report_frame.specs.declared.version.Version.TheVariants.{One}
 use Rattle.csv.specs.Records.{field_at}
 use Rattle.client_table.specs.Table.{IsRow, cells_of, is_bad_length, is_bad_at, is_bad_cell}
 
@@ -79,6 +81,34 @@ unfolding field_at
 there-at [] n cell is = cc is
 there-at (f ∷ fs) zero cell is = cc is
 there-at (f ∷ fs) (suc n) cell is = there-at fs n cell is
+
+-- each cell of a row of version 1 is a value
+pub row-value : (width : ℕ) (cells : List (List ℕ)) → IsRow One width cells → (i : ℕ) → i < length cells → (1 ≤ length (get_or cells i [])) × (length (get_or cells i []) ≤ MAX_VALUE)
+row-value width cells row i lt =
+    let there = field-there cells i lt in
+    let cell : List ℕ = there.0 in
+    let same : get_or cells i [] ≡ cell = there-at cells i cell there.1 in
+    let good : ((i == width) || ((length cell == 0) || nat_lt MAX_VALUE (length cell))) ≡ false = ap (is_bad_cell One width i) (sym there.1) ∙ row.good i in
+    subst (λ (v : List ℕ). (1 ≤ length v) × (length v ≤ MAX_VALUE)) (sym same) (none_bad (i == width) (length cell) good)
+  where
+    both : (a b : Bool) → (a || b) ≡ false → (a ≡ false) × (b ≡ false)
+    both true b e = absurd (let bad : true ≡ false = e in cc)
+    both false true e = absurd (let bad : true ≡ false = e in cc)
+    both false false e = (refl, refl)
+
+    none_bad : (behind : Bool) (size : ℕ) → (behind || ((size == 0) || nat_lt MAX_VALUE size)) ≡ false → (1 ≤ size) × (size ≤ MAX_VALUE)
+    none_bad true size good = absurd (let bad : true ≡ false = good in cc)
+    none_bad false size good =
+        let parts = both (size == 0) (nat_lt MAX_VALUE size) good in (
+          elim (cases_lt 0 size) [
+            | inl some ↦ omega (arith, some)
+            | inr none ↦ absurd (let bad : true ≡ false = sym (eq-eqb size 0 (omega arith)) ∙ parts.0 in cc)
+          ],
+          elim (cases_lt MAX_VALUE size) [
+            | inl many ↦ absurd (let bad : true ≡ false = sym (lt-ltb MAX_VALUE size many) ∙ parts.1 in cc)
+            | inr few ↦ few
+          ],
+        )
 
 -- the first cells and the one behind them
 pub take-cell : (cells : List (List ℕ)) (n : ℕ) (cell : List ℕ) → field_at cells n ≡ Some cell → take (suc n) cells ≡ take n cells ++ cell ∷ []

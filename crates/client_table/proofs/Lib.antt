@@ -1,6 +1,6 @@
 mod Between
 mod LeftRecords
-mod Cells
+pub mod Cells
 pub mod Places
 mod Outcomes
 pub mod BadPlaceLaws
