@@ -8,6 +8,7 @@ use Rattle.command_words.specs.Options.{Text, Pair, value_of}
 use Rattle.command_words.specs.Seed.{seed_of}
 use Rattle.command_words.specs.Thresholds.{thresholds_of}
 use Rattle.command_words.specs.Books.{epoch_of, book_of, merge_of, open_book_by, open_book_of}
+use Rattle.command_words.specs.Expect.{expect_by, expect_of}
 use Rattle.command_words.specs.Generate.{gen_by, gen_of, number_of, IsTrial}
 use Rattle.command_words.specs.Make.{make_by, make_of, version_of}
 use Rattle.command_words.specs.Reveal.{reveal_by, reveal_of}
@@ -18,8 +19,9 @@ use Rattle.recovery_pool.specs.declared.limits.TheConstants.{MAX_WORKERS}
 use Rattle.command_words.specs.Verb.{verb_of, command_by}
 use Rattle.command_words.specs.Words.{HasGoodOptions, command_of, command_with}
 use Rattle.command_words.specs.declared.command.Command.{Command}
-use Rattle.command_words.specs.declared.command.Command.TheVariants.{Check, Reveal, Make, Gen, SelfTest, Book, Merge, OpenBook}
+use Rattle.command_words.specs.declared.command.Command.TheVariants.{Check, Reveal, Make, Gen, SelfTest, Expect, Book, Merge, OpenBook}
 use Rattle.report_frame.specs.declared.version.Version.{Version}
+use Rattle.report_frame.specs.declared.version.Version.TheVariants.{One}
 use Rattle.command_words.specs.declared.verb.Verb.{Verb}
 use Rattle.command_words.specs.declared.verb.Verb.TheVariants as verb
 use Rattle.command_words.specs.declared.command.WordsError.{WordsError}
@@ -150,6 +152,23 @@ make_of-good options command is = at (version_of options) is
     at None is = cc is
     at (Some version) is = go version epoch (value_of options (codes "thresholds")) seed command is
 
+-- and so do options of `expect`
+expect_of-good : (options : List Pair) (command : Command) → expect_of options ≡ Some command → HasGoodOptions command
+expect_of-good options command is =
+    go (option_and_then (number_in 0 (2 ^ 32 - 1)) (value_of options (codes "epoch"))) (value_of options (codes "thresholds")) (option_and_then seed_of (value_of options (codes "seed"))) is
+  where
+    made : (epoch : ℕ) (text : Text) (thresholds seed : Option (List ℕ)) → thresholds_of One text ≡ thresholds → expect_by (Some epoch) thresholds seed ≡ Some command → HasGoodOptions command
+    made epoch text None seed of_text is = cc is
+    made epoch text (Some thresholds) None of_text is = cc is
+    made epoch text (Some thresholds) (Some seed) of_text is =
+        let it : Expect epoch thresholds seed ≡ command = cc is in
+        subst HasGoodOptions it (thresholds_of-good One text thresholds of_text)
+
+    go : (epoch : Option ℕ) (text : Option Text) (seed : Option (List ℕ)) → expect_by epoch (option_and_then (thresholds_of One) text) seed ≡ Some command → HasGoodOptions command
+    go None text seed is = cc is
+    go (Some epoch) None seed is = cc is
+    go (Some epoch) (Some text) seed is = made epoch text (thresholds_of One text) seed refl is
+
 -- options of a verb give good ones
 verb-good : (verb : Verb) (options : List Pair) (command : Command) → command_by verb options ≡ Some command → HasGoodOptions command
 verb-good verb.Check options command is = let it : Check ≡ command = cc is in subst HasGoodOptions it tt
@@ -157,6 +176,7 @@ verb-good verb.Reveal options command is = reveal_of-good options command is
 verb-good verb.Make options command is = make_of-good options command is
 verb-good verb.Gen options command is = gen_of-good options command is
 verb-good verb.SelfTest options command is = let it : SelfTest ≡ command = cc is in subst HasGoodOptions it tt
+verb-good verb.Expect options command is = expect_of-good options command is
 verb-good verb.Book options command is = book_of-good options command is
 verb-good verb.Merge options command is = merge_of-good options command is
 verb-good verb.OpenBook options command is = open_book_of-good options command is

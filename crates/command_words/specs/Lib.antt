@@ -1,3 +1,4 @@
+pub mod Expect
 pub mod Books
 pub mod Generate
 pub mod Numbers

@@ -3,13 +3,14 @@ use Rattle.std.specs.Prelude.{List, [], codes, Option, Some, None, if◌then◌e
 use Rattle.std.specs.Str.{bytes_eq}
 use Rattle.command_words.specs.Options.{Text, Pair}
 use Rattle.command_words.specs.Books.{book_names, open_book_names, book_of, merge_of, open_book_of}
+use Rattle.command_words.specs.Expect.{expect_names, expect_of}
 use Rattle.command_words.specs.Generate.{gen_names, gen_of}
 use Rattle.command_words.specs.Make.{make_names, make_of}
 use Rattle.command_words.specs.Reveal.{reveal_names, reveal_of}
 use Rattle.command_words.specs.declared.command.Command.{Command}
 use Rattle.command_words.specs.declared.command.Command.TheVariants as command
 use Rattle.command_words.specs.declared.verb.Verb.{Verb}
-use Rattle.command_words.specs.declared.verb.Verb.TheVariants.{Check, Reveal, Make, Gen, SelfTest, Book, Merge, OpenBook}
+use Rattle.command_words.specs.declared.verb.Verb.TheVariants.{Check, Reveal, Make, Gen, SelfTest, Expect, Book, Merge, OpenBook}
 
 -- the verb of a word
 abbrev pub verb_of : Text → Option Verb
@@ -19,6 +20,7 @@ verb_of word =
     else if bytes_eq word (codes "make") then Some Make
     else if bytes_eq word (codes "gen") then Some Gen
     else if bytes_eq word (codes "selftest") then Some SelfTest
+    else if bytes_eq word (codes "expect") then Some Expect
     else if bytes_eq word (codes "book") then Some Book
     else if bytes_eq word (codes "merge") then Some Merge
     else if bytes_eq word (codes "openbook") then Some OpenBook
@@ -31,6 +33,7 @@ names_of Reveal = reveal_names
 names_of Make = make_names
 names_of Gen = gen_names
 names_of SelfTest = []
+names_of Expect = expect_names
 names_of Book = book_names
 names_of Merge = book_names
 names_of OpenBook = open_book_names
@@ -42,6 +45,7 @@ command_by Reveal options = reveal_of options
 command_by Make options = make_of options
 command_by Gen options = gen_of options
 command_by SelfTest options = Some command.SelfTest
+command_by Expect options = expect_of options
 command_by Book options = book_of options
 command_by Merge options = merge_of options
 command_by OpenBook options = open_book_of options

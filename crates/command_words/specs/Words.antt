@@ -1,12 +1,13 @@
 -- What the words of the command line ask for: a verb, and the options of that verb.
 use Rattle.std.specs.Prelude.{⊤, List, [], ◌∷◌, Option, None, option_and_then}
 use Rattle.report_frame.specs.Thresholds.{AreThresholds}
+use Rattle.report_frame.specs.declared.version.Version.TheVariants.{One}
 use Rattle.command_words.specs.Generate.{IsTrial}
 use Rattle.command_words.specs.Options.{Text, options_of}
 use Rattle.command_words.specs.Verb.{verb_of, names_of, command_by}
 use Rattle.command_words.specs.Workers.{AreWorkers}
 use Rattle.command_words.specs.declared.command.Command.{Command}
-use Rattle.command_words.specs.declared.command.Command.TheVariants.{Check, Reveal, Make, Gen, SelfTest, Book, Merge, OpenBook}
+use Rattle.command_words.specs.declared.command.Command.TheVariants.{Check, Reveal, Make, Gen, SelfTest, Expect, Book, Merge, OpenBook}
 use Rattle.command_words.specs.declared.verb.Verb.{Verb}
 
 -- the command of a verb by the words after it, or none
@@ -25,6 +26,7 @@ HasGoodOptions (Reveal epoch workers) = AreWorkers workers
 HasGoodOptions (Make epoch version thresholds seed) = AreThresholds version thresholds
 HasGoodOptions (Gen number reports liars workers) = IsTrial reports liars × AreWorkers workers
 HasGoodOptions SelfTest = ⊤
+HasGoodOptions (Expect epoch thresholds seed) = AreThresholds One thresholds
 HasGoodOptions (Book epoch) = ⊤
 HasGoodOptions (Merge epoch) = ⊤
 HasGoodOptions (OpenBook epoch workers) = AreWorkers workers

@@ -44,6 +44,15 @@ pub enum Command {
     },
     /// Computes the vectors of the self test, and prints a line for each.
     SelfTest,
+    /// Reads a table, and prints the groups that the stream of its reports opens, of version 1, where
+    /// these don't come in each other's way.
+    Expect {
+        epoch: u32,
+        /// One for each column.
+        thresholds: Thresholds,
+        /// Of it come the coins of all clients.
+        seed: [u8; 32],
+    },
     /// Reads a stream of records, and writes their book for an epoch.
     Book { epoch: u32 },
     /// Reads books of an epoch, and writes their sum.

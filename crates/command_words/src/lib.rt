@@ -3,6 +3,7 @@
 
 mod books;
 mod command;
+mod expect;
 mod generate;
 pub mod laws;
 mod make;

@@ -154,6 +154,14 @@ const FAULTY_TRIALS: [&str; 41] = [
     "gen 7 1 0",
 ];
 
+// The same of `expect`, whose options are all required.
+const FAULTY_EXPECTATIONS: [&str; 4] = [
+    "expect",
+    "expect --epoch 1 --thresholds 2",
+    "expect --epoch 1 --thresholds 2 --seed 00",
+    "expect --epoch 1 --thresholds 2 --version 1",
+];
+
 // The same of the verbs on books.
 const FAULTY_BOOKS: [&str; 9] = [
     "book",
@@ -170,7 +178,12 @@ const FAULTY_BOOKS: [&str; 9] = [
 #[test]
 fn faulty_words_are_a_fault_of_usage(rt: HostRuntime) -> Result<(), Fail> {
     let alloc = rt.alloc();
-    for line in FAULTY_LINES.iter().chain(&FAULTY_TRIALS).chain(&FAULTY_BOOKS) {
+    for line in FAULTY_LINES
+        .iter()
+        .chain(&FAULTY_TRIALS)
+        .chain(&FAULTY_EXPECTATIONS)
+        .chain(&FAULTY_BOOKS)
+    {
         assert_eq!(rt; read(alloc, line)?, Err(WordsError::Usage), "{line}");
     }
     Ok(())
@@ -282,6 +295,32 @@ fn options_of_make(rt: HostRuntime) -> Result<(), Fail> {
             makes(alloc, line, epoch, Version::One, thresholds, None)?,
             "{line}"
         );
+    }
+    Ok(())
+}
+
+#[test]
+fn options_of_expect(rt: HostRuntime) -> Result<(), Fail> {
+    let alloc = rt.alloc();
+    for (thresholds, wanted) in [
+        ("20,10", true),
+        ("513", false),
+        ("2,2,2,2,2,2,2,2,2", false),
+    ] {
+        let line = format!(in alloc; "expect --seed {ZEROS} --thresholds {thresholds} --epoch=7")?;
+        match read(alloc, &line)? {
+            Ok(
+                Command::Expect {
+                    epoch,
+                    thresholds,
+                    seed,
+                },
+            ) => {
+                assert!(rt; wanted && epoch == 7 && seed == [0; 32], "{line}");
+                assert_eq!(rt; thresholds.as_slice(), [20, 10].as_slice());
+            }
+            answer => assert!(rt; !wanted && answer == Err(WordsError::Usage), "{line}"),
+        }
     }
     Ok(())
 }

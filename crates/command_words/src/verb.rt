@@ -5,6 +5,7 @@ ghost use Rattle.command_words.specs.Verb.{verb_of, names_of, command_by};
 
 use crate::books::{book_of, merge_of, open_book_of};
 use crate::command::Command;
+use crate::expect::expect_of;
 use crate::generate::gen_of;
 use crate::make::make_of;
 use crate::options::Options;
@@ -18,6 +19,7 @@ pub enum Verb {
     Make,
     Gen,
     SelfTest,
+    Expect,
     Book,
     Merge,
     OpenBook,
@@ -35,6 +37,8 @@ const MAKE_NAMES: [&str; 4] = ["epoch", "version", "thresholds", "seed"];
 // The names of the options of `gen`.
 const GEN_NAMES: [&str; 4] = ["number", "reports", "liars", "workers"];
 
+// The names of the options of `expect`.
+const EXPECT_NAMES: [&str; 3] = ["epoch", "thresholds", "seed"];
 // The names of the options of `book`, and those of `merge`.
 const BOOK_NAMES: [&str; 1] = ["epoch"];
 
@@ -52,6 +56,7 @@ impl Verb {
             "make" => Some(Verb::Make),
             "gen" => Some(Verb::Gen),
             "selftest" => Some(Verb::SelfTest),
+            "expect" => Some(Verb::Expect),
             "book" => Some(Verb::Book),
             "merge" => Some(Verb::Merge),
             "openbook" => Some(Verb::OpenBook),
@@ -69,6 +74,7 @@ impl Verb {
             Verb::Make => &MAKE_NAMES,
             Verb::Gen => &GEN_NAMES,
             Verb::SelfTest => &NO_NAMES,
+            Verb::Expect => &EXPECT_NAMES,
             Verb::Book => &BOOK_NAMES,
             Verb::Merge => &BOOK_NAMES,
             Verb::OpenBook => &OPEN_BOOK_NAMES,
@@ -85,6 +91,7 @@ impl Verb {
             Verb::Make => make_of(options),
             Verb::Gen => gen_of(options),
             Verb::SelfTest => Some(Command::SelfTest),
+            Verb::Expect => expect_of(options),
             Verb::Book => book_of(options),
             Verb::Merge => merge_of(options),
             Verb::OpenBook => open_book_of(options),
