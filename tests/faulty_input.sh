@@ -56,7 +56,7 @@ times() {
     printf "%.0s$2" $(seq "$1")
 }
 
-usage='usage: star_tool check | reveal --epoch E [--workers W] | make --epoch E --thresholds K,.. [--seed HEX] [--version V] | gen --number N --reports R --liars L [--workers W] | selftest'
+usage='usage: star_tool check | reveal --epoch E [--workers W] | make --epoch E --thresholds K,.. [--seed HEX] [--version V] | gen --number N --reports R --liars L [--workers W] | selftest | expect --epoch E --thresholds K,.. --seed HEX | book --epoch E | merge --epoch E | openbook --epoch E [--workers W]'
 none='records=0 good=0 refused=0'
 seed=--seed=0000000000000000000000000000000000000000000000000000000000000000
 pair="make --epoch 1 --thresholds 2,2"
@@ -75,7 +75,8 @@ for words in "look" "check x" "selftest x" "make" "make --epoch 1" "make --thres
     "make --epoch 1 --thresholds 4097 --version 2" "make --epoch 1 --version 2 --thresholds $(times 16 2,)2" \
     "$pair --version 3" "$pair --version 01" "$pair --version" "make --epoch --thresholds 2" "--epoch 1 make" \
     "reveal" "reveal --workers 2" "reveal --epoch 7 --epoch 7" "reveal --epoch=7 --workers 65" "reveal --epoch +7" "reveal --epoch 4294967296" "reveal --epoch 7 --" \
-    "gen" "gen --number 7 --reports 0 --liars 0" "gen --number 7 --reports 65537 --liars 0" "gen --number 7 --reports 1 --liars 101"; do
+    "gen" "gen --number 7 --reports 0 --liars 0" "gen --number 7 --reports 65537 --liars 0" "gen --number 7 --reports 1 --liars 101" \
+    "expect" "expect --epoch 1 --thresholds 2" "expect --epoch 1 --thresholds 2 $seed --version 1"; do
     run $words </dev/null
     wanted "$words" 2 "" "$usage"
 done
@@ -103,6 +104,16 @@ wanted "text" 0 "$(printf '0 refused CutRecord 4999996\nrecords=1 good=0 refused
 # selftest
 run selftest <&-
 wanted "the self test" 0 "$(printf 'vector %s ok\n' 1 2 3 4 5 6 7; echo 'vectors=7 ok=7')" ""
+
+# expect
+run expect --epoch 7 --thresholds 3,2 "$seed" </dev/null
+wanted "a table with no row" 0 "prefixes=0 clear=yes" ""
+printf 'red,blue\nred\n' | run expect --epoch 1 --thresholds 2,2 "$seed"
+wanted "a row that is too short" 7 "" "bad table: row 1 column 1"
+yes red | head -n 65537 | run expect --epoch 1 --thresholds 2 "$seed"
+wanted "more rows than a table may have" 5 "" "too many"
+told expect --epoch 7 --thresholds 3,2 "$seed" </dev/null >/dev/full
+wanted "what a table tells, where nothing can be written" 4 "" "write fault"
 
 # make. The hashes are those of streams that an implementation in Python makes.
 run make --epoch 7 --thresholds=3,2 "$seed" <examples/cities.csv

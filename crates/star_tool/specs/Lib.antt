@@ -1,6 +1,7 @@
 pub mod CheckText
 pub mod Coins
 pub mod Commands
+pub mod ExpectText
 pub mod FileState
 pub mod Rows
 pub mod Run

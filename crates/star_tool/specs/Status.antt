@@ -14,6 +14,7 @@ use Rattle.star_io.specs.declared.input_error.InputError.{InputError}
 use Rattle.star_io.specs.declared.input_error.InputError.TheVariants as input
 use Rattle.star_tool.specs.declared.verbs.book.TheConstants as book
 use Rattle.star_tool.specs.declared.verbs.check.TheConstants as check
+use Rattle.star_tool.specs.declared.verbs.expect.TheConstants as expect
 use Rattle.star_tool.specs.declared.verbs.generate.TheConstants as generate
 use Rattle.star_tool.specs.declared.verbs.make.TheConstants as make
 use Rattle.star_tool.specs.declared.verbs.merge.TheConstants as merge
@@ -71,8 +72,9 @@ abbrev pub line_of : Status → List ℕ
 line_of Done = []
 line_of Usage =
     codes "usage: star_tool " ++ check.USAGE.now ++ codes " | " ++ reveal.USAGE.now ++ codes " | " ++ make.USAGE.now ++ codes " | " ++ generate.USAGE.now
-    ++ codes " | " ++ self_test.USAGE.now ++ codes " | " ++ book.USAGE.now ++ codes " | " ++ merge.USAGE.now ++ codes " | " ++ open_book.USAGE.now
-    ++ codes "\n"
+    ++ codes " | " ++ self_test.USAGE.now
+    ++ codes " | " ++ expect.USAGE.now ++ codes " | " ++ book.USAGE.now ++ codes " | " ++ merge.USAGE.now
+    ++ codes " | " ++ open_book.USAGE.now ++ codes "\n"
 line_of ReadFault = codes "read fault\n"
 line_of WriteFault = codes "write fault\n"
 line_of TooMany = codes "too many\n"

@@ -1,6 +1,7 @@
 -- The verbs, each in its own file.
 pub mod Book
 pub mod Check
+pub mod Expect
 pub mod Generate
 pub mod Make
 pub mod Merge

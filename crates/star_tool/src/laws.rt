@@ -1,13 +1,17 @@
 //! Laws of the commands: what a refusal of their input means, and what they tell. Each
 //! function does nothing: its clauses are facts about the definitions that the contract of `run` cites.
-ghost use Rattle.std.specs.Prelude.{◌≡◌, ◌↔◌, ℕ, List, Option, None, Some, Ok, Err};
+ghost use Rattle.std.specs.Prelude.{◌≡◌, ◌↔◌, ℕ, List, Option, None, Some, Ok, Err, ◌<◌, ◌^◌, ◌++◌, [], length, All, true};
+ghost use Rattle.std.specs.List.{flat_map};
 ghost use Rattle.star_io.specs.Bytes.{AreBytes};
 ghost use Rattle.star_io.specs.RecordLists.{HasMoreThan, stream_records};
 ghost use Rattle.star_io.specs.declared.record.TheConstants.{MAX_RECORDS};
 ghost use Rattle.report_frame.specs.declared.version.Version.{Version};
+ghost use Rattle.report_frame.specs.declared.version.Version.TheVariants.{One};
+ghost use Rattle.report_frame.specs.Thresholds.{AreThresholds};
 ghost use Rattle.nest_client.specs.Generator.{drawn_records};
 ghost use Rattle.layer_walk.specs.Reveal.{reveal_of};
-ghost use Rattle.reveal_report.specs.RevealText.{text_of, summary_of};
+ghost use Rattle.reveal_report.specs.RevealText.{open_line, level_lines, aux_line, last_line, text_of, summary_of};
+ghost use Rattle.table_law.specs.Reveals.{IsClean};
 ghost use Rattle.star_vectors.specs.Comparison.{first_differing};
 ghost use Rattle.star_vectors.specs.Vectors.{vectors};
 ghost use Rattle.book_file.specs.Book.{Book};
@@ -17,9 +21,11 @@ ghost use Rattle.book_merge.specs.Merging.{merged};
 ghost use Rattle.book_merge.specs.Records.{records_of};
 ghost use Rattle.book_merge.specs.declared.fault.MergeFault.{MergeFault};
 ghost use Rattle.command_words.specs.declared.command.Command.{Command};
-ghost use Rattle.command_words.specs.declared.command.Command.TheVariants.{Check, Reveal, Make, Gen, SelfTest, Book as BookCommand, Merge, OpenBook};
+ghost use Rattle.command_words.specs.declared.command.Command.TheVariants.{Check, Reveal, Make, Gen, SelfTest, Expect, Book as BookCommand, Merge, OpenBook};
 ghost use Rattle.star_tool.specs.Commands.{refusal_of, output_of};
 ghost use Rattle.star_tool.specs.Status.{fault_status};
+ghost use Rattle.star_tool.specs.ExpectText.{expect_line};
+ghost use Rattle.star_tool.specs.Verbs.Expect.{SaysClear};
 ghost use Rattle.star_tool.specs.Verbs.Make.{HasTooMuch, HasBadCell, IsTableText};
 ghost use Rattle.star_tool.specs.declared.status.Status.{Status};
 ghost use Rattle.star_tool.specs.declared.verbs.make.TheConstants.{MAX_TABLE_BYTES};
@@ -74,6 +80,29 @@ pub fn self_test_refuses()
         refusal_of SelfTest bytes ≡ Some (Status.BadVector number got wanted) }
     ensures good { (bytes : List ℕ) →
         first_differing vectors ≡ None → refusal_of SelfTest bytes ≡ None }
+{}
+
+/// `expect` refuses exactly what `make` refuses in version 1. Where its output says that the table is
+/// clear, the stream of `make` with the same options and table reveals what it foretells: the `open`
+/// lines of `expect` (`lines`) are those of `reveal` (`reveal`), nothing is refused, and no group is
+/// without a line or has a bad value (`alone`).
+pub fn expect_foretells()
+    ensures refused { (epoch : ℕ) (thresholds seed bytes : List ℕ) →
+        refusal_of (Expect epoch thresholds seed) bytes ≡ refusal_of (Make epoch One thresholds (Some seed)) bytes }
+    ensures lines { (epoch : ℕ) (thresholds seed bytes drawn : List ℕ) → epoch < 2 ^ 32 → AreThresholds One thresholds →
+        refusal_of (Expect epoch thresholds seed) bytes ≡ None → SaysClear (output_of (Expect epoch thresholds seed) bytes drawn) →
+        let revealed = reveal_of epoch (stream_records (output_of (Make epoch One thresholds (Some seed)) bytes drawn)) in
+        output_of (Expect epoch thresholds seed) bytes drawn ≡ flat_map open_line revealed.groups ++ expect_line (length revealed.groups) true }
+    ensures reveal { (epoch workers : ℕ) (thresholds seed bytes drawn other : List ℕ) → epoch < 2 ^ 32 → AreThresholds One thresholds →
+        refusal_of (Expect epoch thresholds seed) bytes ≡ None → SaysClear (output_of (Expect epoch thresholds seed) bytes drawn) →
+        let stream = output_of (Make epoch One thresholds (Some seed)) bytes drawn in
+        let revealed = reveal_of epoch (stream_records stream) in
+        output_of (Reveal epoch workers) stream other
+        ≡ flat_map open_line revealed.groups ++ level_lines revealed.levels ++ flat_map aux_line revealed.aux ++ last_line revealed }
+    ensures alone { (epoch : ℕ) (thresholds seed bytes drawn : List ℕ) → epoch < 2 ^ 32 → AreThresholds One thresholds →
+        refusal_of (Expect epoch thresholds seed) bytes ≡ None → SaysClear (output_of (Expect epoch thresholds seed) bytes drawn) →
+        let revealed = reveal_of epoch (stream_records (output_of (Make epoch One thresholds (Some seed)) bytes drawn)) in
+        (revealed.refusals ≡ []) × All IsClean revealed.levels }
 {}
 
 /// `book` refuses exactly the streams that `check` refuses. Its output is the book of the records.

@@ -4,6 +4,7 @@
 mod book_walk;
 mod check_text;
 mod coins;
+mod expect_text;
 mod feed;
 mod file_source;
 pub mod laws;
@@ -17,6 +18,7 @@ mod verbs;
 pub use check_text::check_text;
 pub use client_table::{TableError, read_table};
 pub use command_words::{Command, Thresholds, Words, WordsError, words_of};
+pub use expect_text::expect_text;
 pub use file_source::FileSource;
 use recovery_pool::NoGate;
 pub use run::run;

@@ -14,6 +14,7 @@ use crate::output::tell;
 use crate::status::Status;
 use crate::verbs::book::book_output;
 use crate::verbs::check::check_output;
+use crate::verbs::expect::expect_output;
 use crate::verbs::generate::gen_output;
 use crate::verbs::make::make_output;
 use crate::verbs::merge::merge_output;
@@ -181,6 +182,11 @@ fn answer_of<R: Threads + Sync, S: Source, C: Source, G: Gate>(
             workers,
         } => gen_output(rt, alloc, number, reports, liars, workers, gate),
         Command::SelfTest => self_test_output(alloc),
+        Command::Expect {
+            epoch,
+            thresholds,
+            seed,
+        } => expect_output(alloc, epoch, &thresholds, &seed, input),
         Command::Book { epoch } => book_output(alloc, epoch, input),
         Command::Merge { epoch } => merge_output(alloc, epoch, input),
         Command::OpenBook { epoch, workers } => {

@@ -4,7 +4,7 @@ ghost use Rattle.std.specs.Fmt.{decimal};
 ghost use Rattle.book_file.specs.Names.{name_of};
 ghost use Rattle.star_tool.specs.Status.{number_of, line_of};
 
-use crate::verbs::{book, check, generate, make, merge, open_book, reveal, self_test};
+use crate::verbs::{book, check, expect, generate, make, merge, open_book, reveal, self_test};
 use book_file::BookKind;
 use book_merge::{MergeError, MergeFault};
 use client_table::TableError;
@@ -188,12 +188,13 @@ fn usage_line(alloc: Global) -> Result<Vec<u8>, NoMemory>
     let mut line = String::new(alloc);
     write!(
         line,
-        "usage: star_tool {} | {} | {} | {} | {} | {} | {} | {}\n",
+        "usage: star_tool {} | {} | {} | {} | {} | {} | {} | {} | {}\n",
         check::USAGE,
         reveal::USAGE,
         make::USAGE,
         generate::USAGE,
         self_test::USAGE,
+        expect::USAGE,
         book::USAGE,
         merge::USAGE,
         open_book::USAGE

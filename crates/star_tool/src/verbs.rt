@@ -2,6 +2,7 @@
 
 pub(crate) mod book;
 pub(crate) mod check;
+pub(crate) mod expect;
 pub(crate) mod generate;
 pub(crate) mod make;
 pub(crate) mod merge;

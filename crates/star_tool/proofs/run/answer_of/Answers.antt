@@ -1,6 +1,7 @@
 use Rattle.std.proofs.Common.{◌≡◌, ◌⊎◌, subst, sym}
 use Rattle.command_words.specs.declared.command.Command.{Command}
-use Rattle.star_tool.specs.Run.{Draws, ending}
+use Rattle.std.specs.Prelude.{IfErr}
+use Rattle.star_tool.specs.Run.{Draws, Reason, ending}
 use Rattle.star_tool.specs.Seen.{seen}
 use Rattle.star_tool.proofs.run.answer_of.Goals as goal
 
@@ -9,3 +10,9 @@ returns-in-Make-clause-coins g c =
     let input = seen g.S.Source.left g.S.Source.faults c.args.input.now c.make_output.new.input in
     let coins = seen g.C.Source.left g.C.Source.faults c.args.coins.now c.make_output.new.coins in
     subst (λ (command : Command). (c.make_output.new.coins ≡ c.args.coins.now) ⊎ Draws command input coins (ending c.make_output.result)) (sym c.in-Make.is) c.make_output.ensures.coins
+
+pub returns-in-Expect-clause-reason : goal.returns-in-Expect-clause-reason
+returns-in-Expect-clause-reason g c =
+    let input = seen g.S.Source.left g.S.Source.faults c.args.input.now c.expect_output.new.input in
+    let coins = seen g.C.Source.left g.C.Source.faults c.args.coins.now c.args.coins.now in
+    subst (λ (command : Command). IfErr c.expect_output.result (Reason command input coins)) (sym c.in-Expect.is) (c.expect_output.ensures.reason coins)
