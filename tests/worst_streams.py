@@ -43,6 +43,15 @@ def no_line_of_512(rng, count):
     return no_line(rng, count, 512)
 
 
+def no_third_line(rng, count):
+    """One group, whose first two shares lie on a line but for as many as may be wrong, and whose third ones are random."""
+    wrong = (count - 2) // 2
+    first, second = set(rng.sample(range(1, count + 1), wrong)), set(rng.sample(range(1, count + 1), wrong))
+    for x in range(1, count + 1):
+        y = shares(rng)
+        yield frame(1, 2, x, [y[0] if x in first else 5 + x, y[1] if x in second else 7 + x, y[2]], bytes(16))
+
+
 def lone_rows(rng, count):
     """A group for each record."""
     for i in range(count):
@@ -108,7 +117,7 @@ def one_value(program, count, path):
 
 
 # A stream: its name, and what writes it.
-STREAMS = [no_line, no_line_of_512, lone_rows, pairs, equal_points, two_values, just_enough, more_than_enough, longest, nested, one_value]
+STREAMS = [no_line, no_line_of_512, no_third_line, lone_rows, pairs, equal_points, two_values, just_enough, more_than_enough, longest, nested, one_value]
 
 
 def write(stream, program, count, path):
