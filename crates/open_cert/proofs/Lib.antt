@@ -1,0 +1,7 @@
+mod Polynomials
+mod Verdicts
+mod Ranges
+mod Groups
+mod ByPath
+mod Complete
+mod Steps

@@ -1,0 +1,3 @@
+pub mod Certs
+pub mod Made
+pub mod Laws
