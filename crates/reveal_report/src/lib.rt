@@ -14,6 +14,7 @@ mod summary;
 mod text;
 
 pub use opened::open_lines;
+pub use paths::push_step;
 pub use summary::summary_of;
 pub use text::text_of;
 
