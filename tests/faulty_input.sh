@@ -56,7 +56,7 @@ times() {
     printf "%.0s$2" $(seq "$1")
 }
 
-usage='usage: star_tool check | reveal --epoch E [--workers W] | make --epoch E --thresholds K,.. [--seed HEX] [--version V] | gen --number N --reports R --liars L [--workers W] | selftest | expect --epoch E --thresholds K,.. --seed HEX | book --epoch E | merge --epoch E | openbook --epoch E [--workers W]'
+usage='usage: star_tool check | reveal --epoch E [--workers W] | make --epoch E --thresholds K,.. [--seed HEX] [--version V] | gen --number N --reports R --liars L [--workers W] | selftest | expect --epoch E --thresholds K,.. --seed HEX | book --epoch E | merge --epoch E | openbook --epoch E [--workers W] | certify --epoch E | audit'
 none='records=0 good=0 refused=0'
 seed=--seed=0000000000000000000000000000000000000000000000000000000000000000
 pair="make --epoch 1 --thresholds 2,2"
@@ -76,7 +76,8 @@ for words in "look" "check x" "selftest x" "make" "make --epoch 1" "make --thres
     "$pair --version 3" "$pair --version 01" "$pair --version" "make --epoch --thresholds 2" "--epoch 1 make" \
     "reveal" "reveal --workers 2" "reveal --epoch 7 --epoch 7" "reveal --epoch=7 --workers 65" "reveal --epoch +7" "reveal --epoch 4294967296" "reveal --epoch 7 --" \
     "gen" "gen --number 7 --reports 0 --liars 0" "gen --number 7 --reports 65537 --liars 0" "gen --number 7 --reports 1 --liars 101" \
-    "expect" "expect --epoch 1 --thresholds 2" "expect --epoch 1 --thresholds 2 $seed --version 1"; do
+    "expect" "expect --epoch 1 --thresholds 2" "expect --epoch 1 --thresholds 2 $seed --version 1" "certify" "certify --epoch 7 --workers 2" \
+    "audit --epoch 7"; do
     run $words </dev/null
     wanted "$words" 2 "" "$usage"
 done
@@ -193,6 +194,36 @@ wanted "131,072 records to reveal" 0 "records=131072 rows=0 refused=131072" ""
 # gen. The digest is that of the text that two other programs print of this stream.
 run gen --number 7 --reports 20000 --liars 10 <&-
 wanted "a stream for trials" 0 "$(printf 'level 0 opened=20 few=0 noline=0 badvalue=0\nlevel 1 opened=190 few=10 noline=0 badvalue=0\nrecords=20000 rows=20000 refused=0\ntext=76981216faef6fb79411b523a3216cd0a1d3d85b182f03c55bdc8086412e84f6')" ""
+
+# certify and audit. The digest is that of the certificates that an implementation in Python writes.
+run certify --epoch 7 </dev/null
+wanted "an empty stream to certify" 0 "" ""
+"$program" make --epoch 7 --thresholds 3,2 "$seed" <examples/cities.csv | run certify --epoch 7
+cp "$scratch/out" "$scratch/certs"
+hashed
+wanted "make and certify" 0 6f2d1807c5fdcb7d12494a869caa1a7046739ac8e877fd474ae461601b98666b ""
+run audit <"$scratch/certs"
+wanted "two certificates" 0 "$(printf '0 yes DE~3 level=0 points=3 agree=3\n1 yes Berlin~2 level=1 points=2 agree=2\ncerts=2 yes=2')" ""
+head -c 491 "$scratch/certs" | run audit
+wanted "a byte too few" 12 "" "bad cert 1: Truncated 212"
+(cat "$scratch/certs"; printf x) | run audit
+wanted "a byte too many" 12 "" "bad cert 2: Truncated 0"
+run audit </dev/null
+wanted "no certificates" 0 "certs=0 yes=0" ""
+run certify --epoch 7 </
+wanted "a folder as standard input of certify" 3 "" "read fault"
+run audit </
+wanted "a folder as standard input of audit" 3 "" "read fault"
+told certify --epoch 7 </dev/null >/dev/full
+wanted "no certificate, where nothing can be written" 0 "" ""
+told audit <"$scratch/certs" >/dev/full
+wanted "a full disk as standard output of audit" 4 "" "write fault"
+head -c 524289 /dev/zero | run certify --epoch 7
+wanted "a byte more to certify" 5 "" "too many"
+head -c 536870912 /dev/zero | run audit
+wanted "as many bytes as certificates may have" 12 "" "bad cert 0: Magic 0"
+head -c 536870913 /dev/zero | run audit
+wanted "a byte more than certificates may have" 5 "" "too many"
 
 echo "$passed passed, $failed failed"
 [ "$failed" -eq 0 ]

@@ -9,6 +9,7 @@ use Rattle.command_words.specs.Seed.{seed_of}
 use Rattle.command_words.specs.Thresholds.{thresholds_of}
 use Rattle.command_words.specs.Books.{epoch_of, book_of, merge_of, open_book_by, open_book_of}
 use Rattle.command_words.specs.Expect.{expect_by, expect_of}
+use Rattle.command_words.specs.Certify.{certify_of}
 use Rattle.command_words.specs.Generate.{gen_by, gen_of, number_of, IsTrial}
 use Rattle.command_words.specs.Make.{make_by, make_of, version_of}
 use Rattle.command_words.specs.Reveal.{reveal_by, reveal_of}
@@ -19,7 +20,7 @@ use Rattle.recovery_pool.specs.declared.limits.TheConstants.{MAX_WORKERS}
 use Rattle.command_words.specs.Verb.{verb_of, command_by}
 use Rattle.command_words.specs.Words.{HasGoodOptions, command_of, command_with}
 use Rattle.command_words.specs.declared.command.Command.{Command}
-use Rattle.command_words.specs.declared.command.Command.TheVariants.{Check, Reveal, Make, Gen, SelfTest, Expect, Book, Merge, OpenBook}
+use Rattle.command_words.specs.declared.command.Command.TheVariants.{Check, Reveal, Make, Gen, SelfTest, Expect, Book, Merge, OpenBook, Certify, Audit}
 use Rattle.report_frame.specs.declared.version.Version.{Version}
 use Rattle.report_frame.specs.declared.version.Version.TheVariants.{One}
 use Rattle.command_words.specs.declared.verb.Verb.{Verb}
@@ -168,6 +169,13 @@ expect_of-good options command is =
     go None text seed is = cc is
     go (Some epoch) None seed is = cc is
     go (Some epoch) (Some text) seed is = made epoch text (thresholds_of One text) seed refl is
+-- options of `certify` give an epoch alone
+certify_of-good : (options : List Pair) (command : Command) → certify_of options ≡ Some command → HasGoodOptions command
+certify_of-good options command is = go (option_and_then (number_in 0 (2 ^ 32 - 1)) (value_of options (codes "epoch"))) is
+  where
+    go : (epoch : Option ℕ) → option_map (λ e. Certify e) epoch ≡ Some command → HasGoodOptions command
+    go None is = cc is
+    go (Some epoch) is = let it : Certify epoch ≡ command = cc is in subst HasGoodOptions it tt
 
 -- options of a verb give good ones
 verb-good : (verb : Verb) (options : List Pair) (command : Command) → command_by verb options ≡ Some command → HasGoodOptions command
@@ -180,6 +188,8 @@ verb-good verb.Expect options command is = expect_of-good options command is
 verb-good verb.Book options command is = book_of-good options command is
 verb-good verb.Merge options command is = merge_of-good options command is
 verb-good verb.OpenBook options command is = open_book_of-good options command is
+verb-good verb.Certify options command is = certify_of-good options command is
+verb-good verb.Audit options command is = let it : Audit ≡ command = cc is in subst HasGoodOptions it tt
 
 -- and so does an answer
 pub answer-good : (verb : Verb) (options : Option (List Pair)) (answer : Result Command WordsError)

@@ -1,5 +1,6 @@
 pub mod Expect
 pub mod Books
+pub mod Certify
 pub mod Generate
 pub mod Numbers
 pub mod Options

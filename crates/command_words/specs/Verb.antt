@@ -4,13 +4,14 @@ use Rattle.std.specs.Str.{bytes_eq}
 use Rattle.command_words.specs.Options.{Text, Pair}
 use Rattle.command_words.specs.Books.{book_names, open_book_names, book_of, merge_of, open_book_of}
 use Rattle.command_words.specs.Expect.{expect_names, expect_of}
+use Rattle.command_words.specs.Certify.{certify_names, certify_of}
 use Rattle.command_words.specs.Generate.{gen_names, gen_of}
 use Rattle.command_words.specs.Make.{make_names, make_of}
 use Rattle.command_words.specs.Reveal.{reveal_names, reveal_of}
 use Rattle.command_words.specs.declared.command.Command.{Command}
 use Rattle.command_words.specs.declared.command.Command.TheVariants as command
 use Rattle.command_words.specs.declared.verb.Verb.{Verb}
-use Rattle.command_words.specs.declared.verb.Verb.TheVariants.{Check, Reveal, Make, Gen, SelfTest, Expect, Book, Merge, OpenBook}
+use Rattle.command_words.specs.declared.verb.Verb.TheVariants.{Check, Reveal, Make, Gen, SelfTest, Expect, Book, Merge, OpenBook, Certify, Audit}
 
 -- the verb of a word
 abbrev pub verb_of : Text → Option Verb
@@ -24,6 +25,8 @@ verb_of word =
     else if bytes_eq word (codes "book") then Some Book
     else if bytes_eq word (codes "merge") then Some Merge
     else if bytes_eq word (codes "openbook") then Some OpenBook
+    else if bytes_eq word (codes "certify") then Some Certify
+    else if bytes_eq word (codes "audit") then Some Audit
     else None
 
 -- the names of its options
@@ -37,6 +40,8 @@ names_of Expect = expect_names
 names_of Book = book_names
 names_of Merge = book_names
 names_of OpenBook = open_book_names
+names_of Certify = certify_names
+names_of Audit = []
 
 -- the command that its options give
 abbrev pub command_by : Verb → List Pair → Option Command
@@ -49,3 +54,5 @@ command_by Expect options = expect_of options
 command_by Book options = book_of options
 command_by Merge options = merge_of options
 command_by OpenBook options = open_book_of options
+command_by Certify options = certify_of options
+command_by Audit options = Some command.Audit

@@ -63,6 +63,10 @@ pub enum Command {
         /// As those of `Reveal`.
         workers: u32,
     },
+    /// Reads a stream of records, and writes the certificates of what it opens for an epoch.
+    Certify { epoch: u32 },
+    /// Reads certificates, and prints a line for each.
+    Audit,
 }
 
 /// Why words give no command.

@@ -2,6 +2,7 @@
 #![tactic(auto)]
 
 mod books;
+mod certify;
 mod command;
 mod expect;
 mod generate;

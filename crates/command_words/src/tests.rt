@@ -205,6 +205,32 @@ fn verbs_that_stand_alone(rt: HostRuntime) -> Result<(), Fail> {
     let alloc = rt.alloc();
     assert_eq!(rt; read(alloc, "check")?, Ok(Command::Check));
     assert_eq!(rt; read(alloc, "selftest")?, Ok(Command::SelfTest));
+    assert_eq!(rt; read(alloc, "audit")?, Ok(Command::Audit));
+    Ok(())
+}
+
+// The same of `certify` and `audit`.
+const FAULTY_CERTIFICATES: [&str; 9] = [
+    "certify",
+    "certify 7",
+    "certify --epoch",
+    "certify --epoch 4294967296",
+    "certify --epoch 7 --epoch 7",
+    "certify --epoch 7 --workers 2",
+    "certify --epoch 7 x",
+    "audit x",
+    "audit --epoch 7",
+];
+
+#[test]
+fn options_of_certify(rt: HostRuntime) -> Result<(), Fail> {
+    let alloc = rt.alloc();
+    for (line, epoch) in [("certify --epoch 7", 7), ("certify --epoch=4294967295", 4294967295)] {
+        assert_eq!(rt; read(alloc, line)?, Ok(Command::Certify { epoch }), "{line}");
+    }
+    for line in FAULTY_CERTIFICATES {
+        assert_eq!(rt; read(alloc, line)?, Err(WordsError::Usage), "{line}");
+    }
     Ok(())
 }
 

@@ -4,6 +4,7 @@ ghost use Rattle.command_words.specs.Options.{texts_of};
 ghost use Rattle.command_words.specs.Verb.{verb_of, names_of, command_by};
 
 use crate::books::{book_of, merge_of, open_book_of};
+use crate::certify::certify_of;
 use crate::command::Command;
 use crate::expect::expect_of;
 use crate::generate::gen_of;
@@ -23,6 +24,8 @@ pub enum Verb {
     Book,
     Merge,
     OpenBook,
+    Certify,
+    Audit,
 }
 
 // The names of the options of a verb that stands alone.
@@ -44,6 +47,8 @@ const BOOK_NAMES: [&str; 1] = ["epoch"];
 
 // The names of the options of `openbook`.
 const OPEN_BOOK_NAMES: [&str; 2] = ["epoch", "workers"];
+// The names of the options of `certify`.
+const CERTIFY_NAMES: [&str; 1] = ["epoch"];
 
 impl Verb {
     /// The verb of a word.
@@ -60,6 +65,8 @@ impl Verb {
             "book" => Some(Verb::Book),
             "merge" => Some(Verb::Merge),
             "openbook" => Some(Verb::OpenBook),
+            "certify" => Some(Verb::Certify),
+            "audit" => Some(Verb::Audit),
             _ => None,
         }
     }
@@ -78,6 +85,8 @@ impl Verb {
             Verb::Book => &BOOK_NAMES,
             Verb::Merge => &BOOK_NAMES,
             Verb::OpenBook => &OPEN_BOOK_NAMES,
+            Verb::Certify => &CERTIFY_NAMES,
+            Verb::Audit => &NO_NAMES,
         }
     }
 
@@ -95,6 +104,8 @@ impl Verb {
             Verb::Book => book_of(options),
             Verb::Merge => merge_of(options),
             Verb::OpenBook => open_book_of(options),
+            Verb::Certify => certify_of(options),
+            Verb::Audit => Some(Command::Audit),
         }
     }
 }

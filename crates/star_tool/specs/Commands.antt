@@ -1,11 +1,13 @@
 -- The commands: what each reads and draws, why it refuses an input, and what its output is.
 use Rattle.std.specs.Prelude.{ℕ, List, Bool, true, false, Option, None, is_none}
 use Rattle.command_words.specs.declared.command.Command.{Command}
-use Rattle.command_words.specs.declared.command.Command.TheVariants.{Check, Reveal, Make, Gen, SelfTest, Expect, Book, Merge, OpenBook}
+use Rattle.command_words.specs.declared.command.Command.TheVariants.{Check, Reveal, Make, Gen, SelfTest, Expect, Book, Merge, OpenBook, Certify, Audit}
 use Rattle.star_tool.specs.declared.status.Status.{Status}
 use Rattle.star_tool.specs.StreamInput.{stream_refusal, stream_rest}
 use Rattle.book_merge.specs.Merging.{merge_rest}
 use Rattle.star_tool.specs.Verbs.Book.{book_output}
+use Rattle.star_tool.specs.Verbs.Audit.{audit_refusal, audit_rest, audit_output}
+use Rattle.star_tool.specs.Verbs.Certify.{certify_output}
 use Rattle.star_tool.specs.Verbs.Check.{check_output}
 use Rattle.star_tool.specs.Verbs.Expect.{expect_refusal, expect_output}
 use Rattle.star_tool.specs.Verbs.Generate.{gen_output}
@@ -26,6 +28,8 @@ reads (Expect epoch thresholds seed) = true
 reads (Book epoch) = true
 reads (Merge epoch) = true
 reads (OpenBook epoch workers) = true
+reads (Certify epoch) = true
+reads Audit = true
 
 -- the command draws a seed of the coins
 abbrev pub draws : Command → Bool
@@ -38,6 +42,8 @@ draws (Expect epoch thresholds seed) = false
 draws (Book epoch) = false
 draws (Merge epoch) = false
 draws (OpenBook epoch workers) = false
+draws (Certify epoch) = false
+draws Audit = false
 
 -- why these bytes of the input give no output, if so
 abbrev pub refusal_of : Command → (bytes : List ℕ) → Option Status
@@ -50,6 +56,8 @@ refusal_of (Expect epoch thresholds seed) bytes = expect_refusal thresholds byte
 refusal_of (Book epoch) bytes = stream_refusal bytes
 refusal_of (Merge epoch) bytes = merge_refusal epoch bytes
 refusal_of (OpenBook epoch workers) bytes = merge_refusal epoch bytes
+refusal_of (Certify epoch) bytes = stream_refusal bytes
+refusal_of Audit bytes = audit_refusal bytes
 
 -- what is left of these bytes where the command refused them
 abbrev pub rest_of : Command → (bytes : List ℕ) → List ℕ
@@ -62,6 +70,8 @@ rest_of (Expect epoch thresholds seed) bytes = make_rest bytes
 rest_of (Book epoch) bytes = stream_rest bytes
 rest_of (Merge epoch) bytes = merge_rest bytes
 rest_of (OpenBook epoch workers) bytes = merge_rest bytes
+rest_of (Certify epoch) bytes = stream_rest bytes
+rest_of Audit bytes = audit_rest bytes
 
 -- the whole output for these bytes, and for the seed that was drawn
 abbrev pub output_of : Command → (bytes seed : List ℕ) → List ℕ
@@ -74,3 +84,5 @@ output_of (Expect epoch thresholds given) bytes seed = expect_output epoch thres
 output_of (Book epoch) bytes seed = book_output epoch bytes
 output_of (Merge epoch) bytes seed = merge_output epoch bytes
 output_of (OpenBook epoch workers) bytes seed = open_book_output epoch bytes
+output_of (Certify epoch) bytes seed = certify_output epoch bytes
+output_of Audit bytes seed = audit_output bytes

@@ -1,3 +1,4 @@
+pub mod AuditText
 pub mod CheckText
 pub mod Coins
 pub mod Commands

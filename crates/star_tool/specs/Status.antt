@@ -1,11 +1,12 @@
 -- The exit status and the line on standard error of each way in which a run ends.
 use Rattle.std.specs.Prelude.{ℕ, List, [], ◌++◌, codes}
 use Rattle.std.specs.Fmt.{decimal}
+use Rattle.cert_audit.specs.Names.{name_of as cert_fault_name}
 use Rattle.client_table.specs.declared.read.TableError.{TableError}
 use Rattle.client_table.specs.declared.read.TableError.TheVariants as table
 use Rattle.star_vectors.specs.declared.outcome.SelfTestError.{SelfTestError}
 use Rattle.star_vectors.specs.declared.outcome.SelfTestError.TheVariants as vector
-use Rattle.book_file.specs.Names.{name_of}
+use Rattle.book_file.specs.Names.{name_of as book_fault_name}
 use Rattle.book_merge.specs.declared.fault.MergeError.{MergeError}
 use Rattle.book_merge.specs.declared.fault.MergeError.TheVariants as merge_error
 use Rattle.book_merge.specs.declared.fault.MergeFault.{MergeFault}
@@ -13,6 +14,8 @@ use Rattle.book_merge.specs.declared.fault.MergeFault.TheVariants as merge_fault
 use Rattle.star_io.specs.declared.input_error.InputError.{InputError}
 use Rattle.star_io.specs.declared.input_error.InputError.TheVariants as input
 use Rattle.star_tool.specs.declared.verbs.book.TheConstants as book
+use Rattle.star_tool.specs.declared.verbs.audit.TheConstants as audit
+use Rattle.star_tool.specs.declared.verbs.certify.TheConstants as certify
 use Rattle.star_tool.specs.declared.verbs.check.TheConstants as check
 use Rattle.star_tool.specs.declared.verbs.expect.TheConstants as expect
 use Rattle.star_tool.specs.declared.verbs.generate.TheConstants as generate
@@ -22,7 +25,7 @@ use Rattle.star_tool.specs.declared.verbs.open_book.TheConstants as open_book
 use Rattle.star_tool.specs.declared.verbs.reveal.TheConstants as reveal
 use Rattle.star_tool.specs.declared.verbs.self_test.TheConstants as self_test
 use Rattle.star_tool.specs.declared.status.Status.{Status}
-use Rattle.star_tool.specs.declared.status.Status.TheVariants.{Done, Usage, ReadFault, WriteFault, TooMany, NoMemory, BadTable, ShortCoins, BadVector, BadBook, BookEpoch}
+use Rattle.star_tool.specs.declared.status.Status.TheVariants.{Done, Usage, ReadFault, WriteFault, TooMany, NoMemory, BadTable, ShortCoins, BadVector, BadBook, BookEpoch, BadCert}
 
 -- an input that isn't read to its end
 abbrev pub input_status : InputError → Status
@@ -66,6 +69,7 @@ number_of (ShortCoins have) = 8
 number_of (BadVector number got wanted) = 9
 number_of (BadBook book kind at) = 10
 number_of (BookEpoch book have) = 11
+number_of (BadCert cert kind at) = 12
 
 -- the line on standard error
 abbrev pub line_of : Status → List ℕ
@@ -74,7 +78,7 @@ line_of Usage =
     codes "usage: star_tool " ++ check.USAGE.now ++ codes " | " ++ reveal.USAGE.now ++ codes " | " ++ make.USAGE.now ++ codes " | " ++ generate.USAGE.now
     ++ codes " | " ++ self_test.USAGE.now
     ++ codes " | " ++ expect.USAGE.now ++ codes " | " ++ book.USAGE.now ++ codes " | " ++ merge.USAGE.now
-    ++ codes " | " ++ open_book.USAGE.now ++ codes "\n"
+    ++ codes " | " ++ open_book.USAGE.now ++ codes " | " ++ certify.USAGE.now ++ codes " | " ++ audit.USAGE.now ++ codes "\n"
 line_of ReadFault = codes "read fault\n"
 line_of WriteFault = codes "write fault\n"
 line_of TooMany = codes "too many\n"
@@ -82,5 +86,6 @@ line_of NoMemory = codes "no memory\n"
 line_of (BadTable row column) = codes "bad table: row " ++ decimal row ++ codes " column " ++ decimal column ++ codes "\n"
 line_of (ShortCoins have) = codes "short coins: " ++ decimal have ++ codes " bytes\n"
 line_of (BadVector number got wanted) = codes "vector " ++ decimal number ++ codes " differs\n"
-line_of (BadBook book kind at) = codes "bad book " ++ decimal book ++ codes ": " ++ name_of kind ++ codes " " ++ decimal at ++ codes "\n"
+line_of (BadBook book kind at) = codes "bad book " ++ decimal book ++ codes ": " ++ book_fault_name kind ++ codes " " ++ decimal at ++ codes "\n"
 line_of (BookEpoch book have) = codes "book " ++ decimal book ++ codes ": epoch " ++ decimal have ++ codes "\n"
+line_of (BadCert cert kind at) = codes "bad cert " ++ decimal cert ++ codes ": " ++ cert_fault_name kind ++ codes " " ++ decimal at ++ codes "\n"

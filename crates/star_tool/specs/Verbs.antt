@@ -1,5 +1,7 @@
 -- The verbs, each in its own file.
 pub mod Book
+pub mod Audit
+pub mod Certify
 pub mod Check
 pub mod Expect
 pub mod Generate

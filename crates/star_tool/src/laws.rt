@@ -21,13 +21,18 @@ ghost use Rattle.book_merge.specs.Merging.{merged};
 ghost use Rattle.book_merge.specs.Records.{records_of};
 ghost use Rattle.book_merge.specs.declared.fault.MergeFault.{MergeFault};
 ghost use Rattle.command_words.specs.declared.command.Command.{Command};
-ghost use Rattle.command_words.specs.declared.command.Command.TheVariants.{Check, Reveal, Make, Gen, SelfTest, Expect, Book as BookCommand, Merge, OpenBook};
+ghost use Rattle.command_words.specs.declared.command.Command.TheVariants.{Check, Reveal, Make, Gen, SelfTest, Expect, Book as BookCommand, Merge, OpenBook, Certify, Audit};
 ghost use Rattle.star_tool.specs.Commands.{refusal_of, output_of};
 ghost use Rattle.star_tool.specs.Status.{fault_status};
 ghost use Rattle.star_tool.specs.ExpectText.{expect_line};
 ghost use Rattle.star_tool.specs.Verbs.Expect.{SaysClear};
+ghost use Rattle.cert_audit.specs.Certificate.{cert_spelling};
+ghost use Rattle.cert_audit.specs.declared.kind.CertKind.{CertKind};
+ghost use Rattle.open_cert.specs.Certs.{certs_list};
+ghost use Rattle.star_tool.specs.Verbs.Audit.{HasBadCert, AreCerts};
 ghost use Rattle.star_tool.specs.Verbs.Make.{HasTooMuch, HasBadCell, IsTableText};
 ghost use Rattle.star_tool.specs.declared.status.Status.{Status};
+ghost use Rattle.star_tool.specs.declared.verbs.audit.TheConstants.{MAX_CERTS_BYTES};
 ghost use Rattle.star_tool.specs.declared.verbs.make.TheConstants.{MAX_TABLE_BYTES};
 
 /// `check` refuses exactly the streams with a byte behind the last record that is read.
@@ -135,7 +140,32 @@ pub fn open_book_tells()
         output_of (OpenBook epoch workers) bytes seed ≡ text_of (reveal_of epoch (records_of sum)) }
 {}
 
+/// `certify` refuses exactly the streams that `check` refuses. Its output is the certificates of what the
+/// records open for the epoch, one after the other.
+#[tactic(auto, using(crate::proofs::StreamLemmas::too_many_means, crate::proofs::StreamLemmas::too_many_only))]
+pub fn certify_tells()
+    ensures too_many { (epoch : ℕ) (bytes : List ℕ) → AreBytes bytes →
+        (refusal_of (Certify epoch) bytes ≡ Some Status.TooMany) ↔ HasMoreThan MAX_RECORDS bytes }
+    ensures only { (epoch : ℕ) (bytes : List ℕ) (status : Status) →
+        refusal_of (Certify epoch) bytes ≡ Some status → status ≡ Status.TooMany }
+    ensures certs { (epoch : ℕ) (bytes seed : List ℕ) →
+        output_of (Certify epoch) bytes seed ≡ flat_map cert_spelling (certs_list epoch (stream_records bytes)) }
+{}
+
+/// `audit` refuses exactly too many bytes, and else those that go on with something else behind some
+/// whole certificates.
+#[tactic(auto, using(crate::proofs::AuditLaws::too_many_means, crate::proofs::AuditLaws::bad_means, crate::proofs::AuditLaws::none_means))]
+pub fn audit_refuses()
+    ensures too_many { (bytes : List ℕ) →
+        (refusal_of Audit bytes ≡ Some Status.TooMany) ↔ (MAX_CERTS_BYTES < length bytes) }
+    ensures bad { (bytes : List ℕ) (cert : ℕ) (kind : CertKind) (at : ℕ) → AreBytes bytes →
+        (refusal_of Audit bytes ≡ Some (Status.BadCert cert kind at)) ↔ HasBadCert bytes cert kind at }
+    ensures good { (bytes : List ℕ) → AreBytes bytes →
+        (refusal_of Audit bytes ≡ None) ↔ AreCerts bytes }
+{}
+
 /// The limits in plain numbers.
 pub fn limits()
-    ensures { MAX_TABLE_BYTES ≡ 134217728 }
+    ensures table { MAX_TABLE_BYTES ≡ 134217728 }
+    ensures certs { MAX_CERTS_BYTES ≡ 536870912 }
 {}

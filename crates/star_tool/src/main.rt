@@ -2,6 +2,7 @@
 #![tactic(auto)]
 
 mod book_walk;
+mod audit_text;
 mod check_text;
 mod coins;
 mod expect_text;
@@ -31,6 +32,7 @@ use std::io::{self, BufReader, Read, Write};
 use std::process::ExitCode;
 use std::rt::Files;
 use std::thread::Threads;
+pub use verbs::audit::MAX_CERTS_BYTES;
 pub use verbs::make::MAX_TABLE_BYTES;
 
 /// Where the coins come from where no seed is given.

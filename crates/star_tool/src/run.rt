@@ -13,6 +13,8 @@ ghost use Rattle.star_tool.specs.declared.status.Status.{Status};
 use crate::output::tell;
 use crate::status::Status;
 use crate::verbs::book::book_output;
+use crate::verbs::audit::audit_output;
+use crate::verbs::certify::certify_output;
 use crate::verbs::check::check_output;
 use crate::verbs::expect::expect_output;
 use crate::verbs::generate::gen_output;
@@ -192,5 +194,7 @@ fn answer_of<R: Threads + Sync, S: Source, C: Source, G: Gate>(
         Command::OpenBook { epoch, workers } => {
             open_book_output(rt, alloc, epoch, workers, input, gate)
         }
+        Command::Certify { epoch } => certify_output(alloc, epoch, input),
+        Command::Audit => audit_output(alloc, input),
     }
 }

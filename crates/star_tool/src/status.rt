@@ -1,12 +1,14 @@
 // How a run ends, as its number and its line.
 ghost use Rattle.std.specs.Prelude.{◌≡◌, ◌++◌, IfOk, codes};
 ghost use Rattle.std.specs.Fmt.{decimal};
-ghost use Rattle.book_file.specs.Names.{name_of};
+ghost use Rattle.book_file.specs.Names.{name_of as book_fault_name};
+ghost use Rattle.cert_audit.specs.Names.{name_of as cert_fault_name};
 ghost use Rattle.star_tool.specs.Status.{number_of, line_of};
 
-use crate::verbs::{book, check, expect, generate, make, merge, open_book, reveal, self_test};
+use crate::verbs::{audit, book, certify, check, expect, generate, make, merge, open_book, reveal, self_test};
 use book_file::BookKind;
 use book_merge::{MergeError, MergeFault};
+use cert_audit::CertKind;
 use client_table::TableError;
 use star_io::{InputError, NoMemory};
 use star_vectors::SelfTestError;
@@ -55,6 +57,13 @@ pub enum Status {
         book: u32,
         have: u32,
     },
+    /// Behind so many certificates the bytes go on, and begin with none: what is wrong with them, and
+    /// where, in bytes from there.
+    BadCert {
+        cert: u32,
+        kind: CertKind,
+        at: u64,
+    },
 }
 
 /// The exit status of the process.
@@ -73,6 +82,7 @@ pub fn status_number(status: &Status) -> u8
         Status::BadVector { .. } => 9,
         Status::BadBook { .. } => 10,
         Status::BookEpoch { .. } => 11,
+        Status::BadCert { .. } => 12,
     }
 }
 
@@ -176,6 +186,7 @@ pub fn status_line(alloc: Global, status: &Status) -> Result<Vec<u8>, NoMemory>
         Status::BadVector { number, .. } => return bad_vector_line(alloc, *number),
         Status::BadBook { book, kind, at } => return bad_book_line(alloc, *book, *kind, *at),
         Status::BookEpoch { book, have } => return book_epoch_line(alloc, *book, *have),
+        Status::BadCert { cert, kind, at } => return bad_cert_line(alloc, *cert, *kind, *at),
     };
     let bytes = Vec::from_slice(alloc, line.as_bytes())?;
     Ok(bytes)
@@ -188,7 +199,7 @@ fn usage_line(alloc: Global) -> Result<Vec<u8>, NoMemory>
     let mut line = String::new(alloc);
     write!(
         line,
-        "usage: star_tool {} | {} | {} | {} | {} | {} | {} | {} | {}\n",
+        "usage: star_tool {} | {} | {} | {} | {} | {} | {} | {} | {} | {} | {}\n",
         check::USAGE,
         reveal::USAGE,
         make::USAGE,
@@ -197,7 +208,9 @@ fn usage_line(alloc: Global) -> Result<Vec<u8>, NoMemory>
         expect::USAGE,
         book::USAGE,
         merge::USAGE,
-        open_book::USAGE
+        open_book::USAGE,
+        certify::USAGE,
+        audit::USAGE
     )?;
     Ok(line.into_bytes())
 }
@@ -218,6 +231,15 @@ fn short_coins_line(alloc: Global, have: u32) -> Result<Vec<u8>, NoMemory>
     Ok(line.into_bytes())
 }
 
+fn bad_cert_line(alloc: Global, cert: u32, kind: CertKind, at: u64) -> Result<Vec<u8>, NoMemory>
+    ensures { IfOk result (λ line. line.items ≡ codes "bad cert " ++ decimal cert ++ codes ": " ++ cert_fault_name kind ++ codes " " ++ decimal at ++ codes "\n") }
+{
+    let mut line = String::new(alloc);
+    let name = kind.name();
+    write!(line, "bad cert {cert}: {name} {at}\n")?;
+    Ok(line.into_bytes())
+}
+
 fn bad_vector_line(alloc: Global, number: u8) -> Result<Vec<u8>, NoMemory>
     ensures { IfOk result (λ line. line.items ≡ codes "vector " ++ decimal number ++ codes " differs\n") }
 {
@@ -227,7 +249,7 @@ fn bad_vector_line(alloc: Global, number: u8) -> Result<Vec<u8>, NoMemory>
 }
 
 fn bad_book_line(alloc: Global, book: u32, kind: BookKind, at: u64) -> Result<Vec<u8>, NoMemory>
-    ensures { IfOk result (λ line. line.items ≡ codes "bad book " ++ decimal book ++ codes ": " ++ name_of kind ++ codes " " ++ decimal at ++ codes "\n") }
+    ensures { IfOk result (λ line. line.items ≡ codes "bad book " ++ decimal book ++ codes ": " ++ book_fault_name kind ++ codes " " ++ decimal at ++ codes "\n") }
 {
     let mut line = String::new(alloc);
     write!(line, "bad book {book}: {kind} {at}\n")?;

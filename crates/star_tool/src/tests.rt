@@ -1,5 +1,6 @@
 use crate::{FileSource, Status, Words, run, status_line, status_number};
 use book_file::BookKind;
+use cert_audit::CertKind;
 use recovery_pool::NoGate;
 use star_io::{FailAt, Failed, MemorySink, MemorySource, NoMemory, Source};
 use std::alloc::{AllocError, Global};
@@ -299,7 +300,7 @@ fn each_status_has_its_number_and_line(rt: HostRuntime) -> Result<(), Fail> {
         (
             Status::Usage,
             2,
-            "usage: star_tool check | reveal --epoch E [--workers W] | make --epoch E --thresholds K,.. [--seed HEX] [--version V] | gen --number N --reports R --liars L [--workers W] | selftest | expect --epoch E --thresholds K,.. --seed HEX | book --epoch E | merge --epoch E | openbook --epoch E [--workers W]\n",
+            "usage: star_tool check | reveal --epoch E [--workers W] | make --epoch E --thresholds K,.. [--seed HEX] [--version V] | gen --number N --reports R --liars L [--workers W] | selftest | expect --epoch E --thresholds K,.. --seed HEX | book --epoch E | merge --epoch E | openbook --epoch E [--workers W] | certify --epoch E | audit\n",
         ),
         (Status::ReadFault, 3, "read fault\n"),
         (Status::WriteFault, 4, "write fault\n"),
@@ -337,6 +338,13 @@ fn each_status_has_its_number_and_line(rt: HostRuntime) -> Result<(), Fail> {
             Status::BookEpoch { book: 3, have: 2 },
             11,
             "book 3: epoch 2\n",
+            Status::BadCert {
+                cert: 3,
+                kind: CertKind::Range,
+                at: 17,
+            },
+            12,
+            "bad cert 3: Range 17\n",
         ),
     ];
     for (status, number, line) in cases {

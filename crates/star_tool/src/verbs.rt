@@ -1,6 +1,8 @@
 // What each verb does, in a file of its own.
 
 pub(crate) mod book;
+pub(crate) mod audit;
+pub(crate) mod certify;
 pub(crate) mod check;
 pub(crate) mod expect;
 pub(crate) mod generate;
