@@ -12,6 +12,7 @@ use Rattle.command_words.specs.Expect.{expect_by, expect_of}
 use Rattle.command_words.specs.Certify.{certify_of}
 use Rattle.command_words.specs.Generate.{gen_by, gen_of, number_of, IsTrial}
 use Rattle.command_words.specs.Make.{make_by, make_of, version_of}
+use Rattle.command_words.specs.Epochs.{epochs_of}
 use Rattle.command_words.specs.Reveal.{reveal_by, reveal_of}
 use Rattle.command_words.specs.Workers.{workers_of, AreWorkers}
 use Rattle.command_words.specs.declared.generate.TheConstants.{MAX_LIARS, MAX_REPORTS}
@@ -20,7 +21,7 @@ use Rattle.recovery_pool.specs.declared.limits.TheConstants.{MAX_WORKERS}
 use Rattle.command_words.specs.Verb.{verb_of, command_by}
 use Rattle.command_words.specs.Words.{HasGoodOptions, command_of, command_with}
 use Rattle.command_words.specs.declared.command.Command.{Command}
-use Rattle.command_words.specs.declared.command.Command.TheVariants.{Check, Reveal, Make, Gen, SelfTest, Expect, Book, Merge, OpenBook, Certify, Audit}
+use Rattle.command_words.specs.declared.command.Command.TheVariants.{Check, Reveal, Make, Gen, SelfTest, Expect, Book, Merge, OpenBook, Certify, Audit, Epochs}
 use Rattle.report_frame.specs.declared.version.Version.{Version}
 use Rattle.report_frame.specs.declared.version.Version.TheVariants.{One}
 use Rattle.command_words.specs.declared.verb.Verb.{Verb}
@@ -106,6 +107,13 @@ open_book_of-good options command is = go (epoch_of options) (workers_of options
     go None workers good is = cc is
     go (Some epoch) None good is = cc is
     go (Some epoch) (Some workers) good is = let it : OpenBook epoch workers ≡ command = cc is in subst HasGoodOptions it (good workers refl)
+-- options of `epochs` give good workers
+epochs_of-good : (options : List Pair) (command : Command) → epochs_of options ≡ Some command → HasGoodOptions command
+epochs_of-good options command is = go (workers_of options) (workers_of-good (value_of options (codes "workers"))) is
+  where
+    go : (workers : Option ℕ) → ((n : ℕ) → workers ≡ Some n → AreWorkers n) → option_map (λ w. Epochs w) workers ≡ Some command → HasGoodOptions command
+    go None good is = cc is
+    go (Some workers) good is = let it : Epochs workers ≡ command = cc is in subst HasGoodOptions it (good workers refl)
 
 -- options of `gen` give a good trial
 gen_of-good : (options : List Pair) (command : Command) → gen_of options ≡ Some command → HasGoodOptions command
@@ -190,6 +198,7 @@ verb-good verb.Merge options command is = merge_of-good options command is
 verb-good verb.OpenBook options command is = open_book_of-good options command is
 verb-good verb.Certify options command is = certify_of-good options command is
 verb-good verb.Audit options command is = let it : Audit ≡ command = cc is in subst HasGoodOptions it tt
+verb-good verb.Epochs options command is = epochs_of-good options command is
 
 -- and so does an answer
 pub answer-good : (verb : Verb) (options : Option (List Pair)) (answer : Result Command WordsError)

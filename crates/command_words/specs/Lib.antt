@@ -1,6 +1,7 @@
 pub mod Expect
 pub mod Books
 pub mod Certify
+pub mod Epochs
 pub mod Generate
 pub mod Numbers
 pub mod Options

@@ -5,13 +5,14 @@ use Rattle.command_words.specs.Options.{Text, Pair}
 use Rattle.command_words.specs.Books.{book_names, open_book_names, book_of, merge_of, open_book_of}
 use Rattle.command_words.specs.Expect.{expect_names, expect_of}
 use Rattle.command_words.specs.Certify.{certify_names, certify_of}
+use Rattle.command_words.specs.Epochs.{epochs_names, epochs_of}
 use Rattle.command_words.specs.Generate.{gen_names, gen_of}
 use Rattle.command_words.specs.Make.{make_names, make_of}
 use Rattle.command_words.specs.Reveal.{reveal_names, reveal_of}
 use Rattle.command_words.specs.declared.command.Command.{Command}
 use Rattle.command_words.specs.declared.command.Command.TheVariants as command
 use Rattle.command_words.specs.declared.verb.Verb.{Verb}
-use Rattle.command_words.specs.declared.verb.Verb.TheVariants.{Check, Reveal, Make, Gen, SelfTest, Expect, Book, Merge, OpenBook, Certify, Audit}
+use Rattle.command_words.specs.declared.verb.Verb.TheVariants.{Check, Reveal, Make, Gen, SelfTest, Expect, Book, Merge, OpenBook, Certify, Audit, Epochs}
 
 -- the verb of a word
 abbrev pub verb_of : Text → Option Verb
@@ -27,6 +28,7 @@ verb_of word =
     else if bytes_eq word (codes "openbook") then Some OpenBook
     else if bytes_eq word (codes "certify") then Some Certify
     else if bytes_eq word (codes "audit") then Some Audit
+    else if bytes_eq word (codes "epochs") then Some Epochs
     else None
 
 -- the names of its options
@@ -42,6 +44,7 @@ names_of Merge = book_names
 names_of OpenBook = open_book_names
 names_of Certify = certify_names
 names_of Audit = []
+names_of Epochs = epochs_names
 
 -- the command that its options give
 abbrev pub command_by : Verb → List Pair → Option Command
@@ -56,3 +59,4 @@ command_by Merge options = merge_of options
 command_by OpenBook options = open_book_of options
 command_by Certify options = certify_of options
 command_by Audit options = Some command.Audit
+command_by Epochs options = epochs_of options

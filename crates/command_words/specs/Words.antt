@@ -7,7 +7,7 @@ use Rattle.command_words.specs.Options.{Text, options_of}
 use Rattle.command_words.specs.Verb.{verb_of, names_of, command_by}
 use Rattle.command_words.specs.Workers.{AreWorkers}
 use Rattle.command_words.specs.declared.command.Command.{Command}
-use Rattle.command_words.specs.declared.command.Command.TheVariants.{Check, Reveal, Make, Gen, SelfTest, Expect, Book, Merge, OpenBook, Certify, Audit}
+use Rattle.command_words.specs.declared.command.Command.TheVariants.{Check, Reveal, Make, Gen, SelfTest, Expect, Book, Merge, OpenBook, Certify, Audit, Epochs}
 use Rattle.command_words.specs.declared.verb.Verb.{Verb}
 
 -- the command of a verb by the words after it, or none
@@ -32,3 +32,4 @@ HasGoodOptions (Merge epoch) = ⊤
 HasGoodOptions (OpenBook epoch workers) = AreWorkers workers
 HasGoodOptions (Certify epoch) = ⊤
 HasGoodOptions Audit = ⊤
+HasGoodOptions (Epochs workers) = AreWorkers workers

@@ -67,6 +67,11 @@ pub enum Command {
     Certify { epoch: u32 },
     /// Reads certificates, and prints a line for each.
     Audit,
+    /// Reads a stream of records, and prints what it tells for each epoch.
+    Epochs {
+        /// As those of `Reveal`.
+        workers: u32,
+    },
 }
 
 /// Why words give no command.

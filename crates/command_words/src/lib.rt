@@ -5,6 +5,7 @@ mod books;
 mod certify;
 mod command;
 mod expect;
+mod epochs;
 mod generate;
 pub mod laws;
 mod make;

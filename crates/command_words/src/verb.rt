@@ -7,6 +7,7 @@ use crate::books::{book_of, merge_of, open_book_of};
 use crate::certify::certify_of;
 use crate::command::Command;
 use crate::expect::expect_of;
+use crate::epochs::epochs_of;
 use crate::generate::gen_of;
 use crate::make::make_of;
 use crate::options::Options;
@@ -26,6 +27,7 @@ pub enum Verb {
     OpenBook,
     Certify,
     Audit,
+    Epochs,
 }
 
 // The names of the options of a verb that stands alone.
@@ -49,6 +51,8 @@ const BOOK_NAMES: [&str; 1] = ["epoch"];
 const OPEN_BOOK_NAMES: [&str; 2] = ["epoch", "workers"];
 // The names of the options of `certify`.
 const CERTIFY_NAMES: [&str; 1] = ["epoch"];
+// The names of the options of `epochs`.
+const EPOCHS_NAMES: [&str; 1] = ["workers"];
 
 impl Verb {
     /// The verb of a word.
@@ -67,6 +71,7 @@ impl Verb {
             "openbook" => Some(Verb::OpenBook),
             "certify" => Some(Verb::Certify),
             "audit" => Some(Verb::Audit),
+            "epochs" => Some(Verb::Epochs),
             _ => None,
         }
     }
@@ -87,6 +92,7 @@ impl Verb {
             Verb::OpenBook => &OPEN_BOOK_NAMES,
             Verb::Certify => &CERTIFY_NAMES,
             Verb::Audit => &NO_NAMES,
+            Verb::Epochs => &EPOCHS_NAMES,
         }
     }
 
@@ -106,6 +112,7 @@ impl Verb {
             Verb::OpenBook => open_book_of(options),
             Verb::Certify => certify_of(options),
             Verb::Audit => Some(Command::Audit),
+            Verb::Epochs => epochs_of(options),
         }
     }
 }
