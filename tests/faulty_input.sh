@@ -56,7 +56,7 @@ times() {
     printf "%.0s$2" $(seq "$1")
 }
 
-usage='usage: star_tool check | reveal --epoch E [--workers W] | make --epoch E --thresholds K,.. [--seed HEX] [--version V] | gen --number N --reports R --liars L [--workers W] | selftest | expect --epoch E --thresholds K,.. --seed HEX | book --epoch E | merge --epoch E | openbook --epoch E [--workers W] | certify --epoch E | audit'
+usage='usage: star_tool check | reveal --epoch E [--workers W] | make --epoch E --thresholds K,.. [--seed HEX] [--version V] | gen --number N --reports R --liars L [--workers W] | selftest | expect --epoch E --thresholds K,.. --seed HEX | book --epoch E | merge --epoch E | openbook --epoch E [--workers W] | certify --epoch E | audit | epochs [--workers W]'
 none='records=0 good=0 refused=0'
 seed=--seed=0000000000000000000000000000000000000000000000000000000000000000
 pair="make --epoch 1 --thresholds 2,2"
@@ -77,7 +77,7 @@ for words in "look" "check x" "selftest x" "make" "make --epoch 1" "make --thres
     "reveal" "reveal --workers 2" "reveal --epoch 7 --epoch 7" "reveal --epoch=7 --workers 65" "reveal --epoch +7" "reveal --epoch 4294967296" "reveal --epoch 7 --" \
     "gen" "gen --number 7 --reports 0 --liars 0" "gen --number 7 --reports 65537 --liars 0" "gen --number 7 --reports 1 --liars 101" \
     "expect" "expect --epoch 1 --thresholds 2" "expect --epoch 1 --thresholds 2 $seed --version 1" "certify" "certify --epoch 7 --workers 2" \
-    "audit --epoch 7"; do
+    "audit --epoch 7" "epochs x" "epochs --epoch 7" "epochs --workers" "epochs --workers 0" "epochs --workers 65" "epochs --workers 2 --workers 2"; do
     run $words </dev/null
     wanted "$words" 2 "" "$usage"
 done
@@ -190,6 +190,23 @@ wanted "a byte more to reveal" 5 "" "too many"
 head -c 524288 /dev/zero | run reveal --epoch 7
 only_last_line
 wanted "131,072 records to reveal" 0 "records=131072 rows=0 refused=131072" ""
+
+# epochs. The lines are those that docs/FORMATS.md states, as an implementation in Python prints them.
+run epochs </dev/null
+wanted "an empty stream of many epochs" 0 "records=0 epochs=0 refused=0" ""
+for workers in 1 2 64; do
+    run epochs --workers "$workers" <examples/reports.stream
+    wanted "the example, epoch by epoch, $workers workers" 0 "$(printf 'epoch 7\nopen DE~2 points=2 agree=2 members=2\nlevel 0 opened=1 few=2 noline=0 badvalue=0\nlevel 1 opened=0 few=2 noline=0 badvalue=0\nrecords=4 rows=4 refused=0\n%s\nrecords=8 epochs=1 refused=4' "${faults//outer /}")" ""
+done
+run epochs </
+wanted "a folder as standard input of epochs" 3 "" "read fault"
+told epochs </dev/null >/dev/full
+wanted "a full disk as standard output of epochs" 4 "" "write fault"
+head -c 524289 /dev/zero | run epochs
+wanted "a byte more for epochs" 5 "" "too many"
+head -c 524288 /dev/zero | run epochs
+only_last_line
+wanted "131,072 records for epochs" 0 "records=131072 epochs=0 refused=131072" ""
 
 # gen. The digest is that of the text that two other programs print of this stream.
 run gen --number 7 --reports 20000 --liars 10 <&-

@@ -83,9 +83,9 @@ void *realloc(void *old, size_t size) {
 """
 
 
-def red(client):
-    """The record of the report of `red` under threshold 2 in epoch 1, from a client with a seed of zeros."""
-    return formats.record(hostile.report(1, [b"red"], [2], 1, bytes(32), client))
+def red(client, epoch=1):
+    """The record of the report of `red` under threshold 2, from a client with a seed of zeros."""
+    return formats.record(hostile.report(1, [b"red"], [2], epoch, bytes(32), client))
 
 
 SEED = "--seed=" + 64 * "0"
@@ -107,6 +107,10 @@ RUNS = [
      b"level 0 opened=0 few=1 noline=0 badvalue=0\nrecords=1 rows=1 refused=0\n"
      b"text=2b1e13f944338ac91b727831632c537af6f3c085c3f52211c2709542bfecabf3\n"),
     ("selftest", ["selftest"], b"", b"".join(b"vector %d ok\n" % i for i in range(1, 8)) + b"vectors=7 ok=7\n"),
+    ("epochs on the reports of two epochs and a cut record", ["epochs", "--workers", "1"], red(0, 2) + red(0) + red(1) + b"abc",
+     b"epoch 1\nopen red~2 points=2 agree=2 members=2\nlevel 0 opened=1 few=0 noline=0 badvalue=0\nrecords=2 rows=2 refused=0\n"
+     b"epoch 2\nlevel 0 opened=0 few=1 noline=0 badvalue=0\nrecords=1 rows=1 refused=0\n"
+     b"refused 3 CutLength\nrecords=4 epochs=2 refused=1\n"),
 ]
 
 

@@ -6,7 +6,8 @@ use layer_walk::{Stage, Why};
 use std::alloc::AllocError;
 use std::fmt::Write;
 
-pub(crate) fn name_of_why(why: Why) -> &'static str
+/// The name under which a refusal is printed.
+pub fn name_of_why(why: Why) -> &'static str
     ensures { result.now ≡ why_name why }
 {
     match why {

@@ -1,7 +1,7 @@
 -- The commands: what each reads and draws, why it refuses an input, and what its output is.
 use Rattle.std.specs.Prelude.{ℕ, List, Bool, true, false, Option, None, is_none}
 use Rattle.command_words.specs.declared.command.Command.{Command}
-use Rattle.command_words.specs.declared.command.Command.TheVariants.{Check, Reveal, Make, Gen, SelfTest, Expect, Book, Merge, OpenBook, Certify, Audit}
+use Rattle.command_words.specs.declared.command.Command.TheVariants.{Check, Reveal, Make, Gen, SelfTest, Expect, Book, Merge, OpenBook, Certify, Audit, Epochs}
 use Rattle.star_tool.specs.declared.status.Status.{Status}
 use Rattle.star_tool.specs.StreamInput.{stream_refusal, stream_rest}
 use Rattle.book_merge.specs.Merging.{merge_rest}
@@ -10,6 +10,7 @@ use Rattle.star_tool.specs.Verbs.Audit.{audit_refusal, audit_rest, audit_output}
 use Rattle.star_tool.specs.Verbs.Certify.{certify_output}
 use Rattle.star_tool.specs.Verbs.Check.{check_output}
 use Rattle.star_tool.specs.Verbs.Expect.{expect_refusal, expect_output}
+use Rattle.star_tool.specs.Verbs.Epochs.{epochs_output}
 use Rattle.star_tool.specs.Verbs.Generate.{gen_output}
 use Rattle.star_tool.specs.Verbs.Make.{make_refusal, make_rest, make_output}
 use Rattle.star_tool.specs.Verbs.Merge.{merge_refusal, merge_output}
@@ -30,6 +31,7 @@ reads (Merge epoch) = true
 reads (OpenBook epoch workers) = true
 reads (Certify epoch) = true
 reads Audit = true
+reads (Epochs workers) = true
 
 -- the command draws a seed of the coins
 abbrev pub draws : Command → Bool
@@ -44,6 +46,7 @@ draws (Merge epoch) = false
 draws (OpenBook epoch workers) = false
 draws (Certify epoch) = false
 draws Audit = false
+draws (Epochs workers) = false
 
 -- why these bytes of the input give no output, if so
 abbrev pub refusal_of : Command → (bytes : List ℕ) → Option Status
@@ -58,6 +61,7 @@ refusal_of (Merge epoch) bytes = merge_refusal epoch bytes
 refusal_of (OpenBook epoch workers) bytes = merge_refusal epoch bytes
 refusal_of (Certify epoch) bytes = stream_refusal bytes
 refusal_of Audit bytes = audit_refusal bytes
+refusal_of (Epochs workers) bytes = stream_refusal bytes
 
 -- what is left of these bytes where the command refused them
 abbrev pub rest_of : Command → (bytes : List ℕ) → List ℕ
@@ -72,6 +76,7 @@ rest_of (Merge epoch) bytes = merge_rest bytes
 rest_of (OpenBook epoch workers) bytes = merge_rest bytes
 rest_of (Certify epoch) bytes = stream_rest bytes
 rest_of Audit bytes = audit_rest bytes
+rest_of (Epochs workers) bytes = stream_rest bytes
 
 -- the whole output for these bytes, and for the seed that was drawn
 abbrev pub output_of : Command → (bytes seed : List ℕ) → List ℕ
@@ -86,3 +91,4 @@ output_of (Merge epoch) bytes seed = merge_output epoch bytes
 output_of (OpenBook epoch workers) bytes seed = open_book_output epoch bytes
 output_of (Certify epoch) bytes seed = certify_output epoch bytes
 output_of Audit bytes seed = audit_output bytes
+output_of (Epochs workers) bytes seed = epochs_output bytes

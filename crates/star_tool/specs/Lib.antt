@@ -3,6 +3,7 @@ pub mod CheckText
 pub mod Coins
 pub mod Commands
 pub mod ExpectText
+pub mod EpochsText
 pub mod FileState
 pub mod Rows
 pub mod Run

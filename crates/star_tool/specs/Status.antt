@@ -18,6 +18,7 @@ use Rattle.star_tool.specs.declared.verbs.audit.TheConstants as audit
 use Rattle.star_tool.specs.declared.verbs.certify.TheConstants as certify
 use Rattle.star_tool.specs.declared.verbs.check.TheConstants as check
 use Rattle.star_tool.specs.declared.verbs.expect.TheConstants as expect
+use Rattle.star_tool.specs.declared.verbs.epochs.TheConstants as epochs
 use Rattle.star_tool.specs.declared.verbs.generate.TheConstants as generate
 use Rattle.star_tool.specs.declared.verbs.make.TheConstants as make
 use Rattle.star_tool.specs.declared.verbs.merge.TheConstants as merge
@@ -78,7 +79,8 @@ line_of Usage =
     codes "usage: star_tool " ++ check.USAGE.now ++ codes " | " ++ reveal.USAGE.now ++ codes " | " ++ make.USAGE.now ++ codes " | " ++ generate.USAGE.now
     ++ codes " | " ++ self_test.USAGE.now
     ++ codes " | " ++ expect.USAGE.now ++ codes " | " ++ book.USAGE.now ++ codes " | " ++ merge.USAGE.now
-    ++ codes " | " ++ open_book.USAGE.now ++ codes " | " ++ certify.USAGE.now ++ codes " | " ++ audit.USAGE.now ++ codes "\n"
+    ++ codes " | " ++ open_book.USAGE.now ++ codes " | " ++ certify.USAGE.now ++ codes " | " ++ audit.USAGE.now
+    ++ codes " | " ++ epochs.USAGE.now ++ codes "\n"
 line_of ReadFault = codes "read fault\n"
 line_of WriteFault = codes "write fault\n"
 line_of TooMany = codes "too many\n"

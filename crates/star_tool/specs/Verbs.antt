@@ -4,6 +4,7 @@ pub mod Audit
 pub mod Certify
 pub mod Check
 pub mod Expect
+pub mod Epochs
 pub mod Generate
 pub mod Make
 pub mod Merge

@@ -12,6 +12,7 @@ ghost use Rattle.nest_client.specs.Generator.{drawn_records};
 ghost use Rattle.layer_walk.specs.Reveal.{reveal_of};
 ghost use Rattle.reveal_report.specs.RevealText.{open_line, level_lines, aux_line, last_line, text_of, summary_of};
 ghost use Rattle.table_law.specs.Reveals.{IsClean};
+ghost use Rattle.epoch_walk.specs.Epochs.{epochs_told};
 ghost use Rattle.star_vectors.specs.Comparison.{first_differing};
 ghost use Rattle.star_vectors.specs.Vectors.{vectors};
 ghost use Rattle.book_file.specs.Book.{Book};
@@ -21,7 +22,7 @@ ghost use Rattle.book_merge.specs.Merging.{merged};
 ghost use Rattle.book_merge.specs.Records.{records_of};
 ghost use Rattle.book_merge.specs.declared.fault.MergeFault.{MergeFault};
 ghost use Rattle.command_words.specs.declared.command.Command.{Command};
-ghost use Rattle.command_words.specs.declared.command.Command.TheVariants.{Check, Reveal, Make, Gen, SelfTest, Expect, Book as BookCommand, Merge, OpenBook, Certify, Audit};
+ghost use Rattle.command_words.specs.declared.command.Command.TheVariants.{Check, Reveal, Make, Gen, SelfTest, Expect, Book as BookCommand, Merge, OpenBook, Certify, Audit, Epochs};
 ghost use Rattle.star_tool.specs.Commands.{refusal_of, output_of};
 ghost use Rattle.star_tool.specs.Status.{fault_status};
 ghost use Rattle.star_tool.specs.ExpectText.{expect_line};
@@ -30,6 +31,7 @@ ghost use Rattle.cert_audit.specs.Certificate.{cert_spelling};
 ghost use Rattle.cert_audit.specs.declared.kind.CertKind.{CertKind};
 ghost use Rattle.open_cert.specs.Certs.{certs_list};
 ghost use Rattle.star_tool.specs.Verbs.Audit.{HasBadCert, AreCerts};
+ghost use Rattle.star_tool.specs.EpochsText.{epochs_text_of};
 ghost use Rattle.star_tool.specs.Verbs.Make.{HasTooMuch, HasBadCell, IsTableText};
 ghost use Rattle.star_tool.specs.declared.status.Status.{Status};
 ghost use Rattle.star_tool.specs.declared.verbs.audit.TheConstants.{MAX_CERTS_BYTES};
@@ -162,6 +164,18 @@ pub fn audit_refuses()
         (refusal_of Audit bytes ≡ Some (Status.BadCert cert kind at)) ↔ HasBadCert bytes cert kind at }
     ensures good { (bytes : List ℕ) → AreBytes bytes →
         (refusal_of Audit bytes ≡ None) ↔ AreCerts bytes }
+{}
+
+/// `epochs` refuses exactly the streams that `check` refuses. Its output is the text of what the records
+/// tell for each of their epochs, whatever the number of workers.
+#[tactic(auto, using(crate::proofs::StreamLemmas::too_many_means, crate::proofs::StreamLemmas::too_many_only))]
+pub fn epochs_tell()
+    ensures too_many { (workers : ℕ) (bytes : List ℕ) → AreBytes bytes →
+        (refusal_of (Epochs workers) bytes ≡ Some Status.TooMany) ↔ HasMoreThan MAX_RECORDS bytes }
+    ensures only { (workers : ℕ) (bytes : List ℕ) (status : Status) →
+        refusal_of (Epochs workers) bytes ≡ Some status → status ≡ Status.TooMany }
+    ensures text { (workers : ℕ) (bytes seed : List ℕ) →
+        output_of (Epochs workers) bytes seed ≡ epochs_text_of (epochs_told (stream_records bytes)) }
 {}
 
 /// The limits in plain numbers.

@@ -17,6 +17,7 @@ use crate::verbs::audit::audit_output;
 use crate::verbs::certify::certify_output;
 use crate::verbs::check::check_output;
 use crate::verbs::expect::expect_output;
+use crate::verbs::epochs::epochs_output;
 use crate::verbs::generate::gen_output;
 use crate::verbs::make::make_output;
 use crate::verbs::merge::merge_output;
@@ -196,5 +197,6 @@ fn answer_of<R: Threads + Sync, S: Source, C: Source, G: Gate>(
         }
         Command::Certify { epoch } => certify_output(alloc, epoch, input),
         Command::Audit => audit_output(alloc, input),
+        Command::Epochs { workers } => epochs_output(rt, alloc, workers, input, gate),
     }
 }

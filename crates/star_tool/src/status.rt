@@ -5,7 +5,7 @@ ghost use Rattle.book_file.specs.Names.{name_of as book_fault_name};
 ghost use Rattle.cert_audit.specs.Names.{name_of as cert_fault_name};
 ghost use Rattle.star_tool.specs.Status.{number_of, line_of};
 
-use crate::verbs::{audit, book, certify, check, expect, generate, make, merge, open_book, reveal, self_test};
+use crate::verbs::{audit, book, certify, check, epochs, expect, generate, make, merge, open_book, reveal, self_test};
 use book_file::BookKind;
 use book_merge::{MergeError, MergeFault};
 use cert_audit::CertKind;
@@ -199,7 +199,7 @@ fn usage_line(alloc: Global) -> Result<Vec<u8>, NoMemory>
     let mut line = String::new(alloc);
     write!(
         line,
-        "usage: star_tool {} | {} | {} | {} | {} | {} | {} | {} | {} | {} | {}\n",
+        "usage: star_tool {} | {} | {} | {} | {} | {} | {} | {} | {} | {} | {} | {}\n",
         check::USAGE,
         reveal::USAGE,
         make::USAGE,
@@ -210,7 +210,8 @@ fn usage_line(alloc: Global) -> Result<Vec<u8>, NoMemory>
         merge::USAGE,
         open_book::USAGE,
         certify::USAGE,
-        audit::USAGE
+        audit::USAGE,
+        epochs::USAGE
     )?;
     Ok(line.into_bytes())
 }

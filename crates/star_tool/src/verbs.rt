@@ -5,6 +5,7 @@ pub(crate) mod audit;
 pub(crate) mod certify;
 pub(crate) mod check;
 pub(crate) mod expect;
+pub(crate) mod epochs;
 pub(crate) mod generate;
 pub(crate) mod make;
 pub(crate) mod merge;
