@@ -242,5 +242,23 @@ wanted "as many bytes as certificates may have" 12 "" "bad cert 0: Magic 0"
 head -c 536870913 /dev/zero | run audit
 wanted "a byte more than certificates may have" 5 "" "too many"
 
+# book, merge and openbook
+run openbook --epoch 1 </dev/null
+wanted "no book to open" 0 "$shut" ""
+printf STARBOOM | run merge --epoch 1
+wanted "bytes that are no book" 10 "" "bad book 0: Magic 0"
+"$program" book --epoch 2 </dev/null | run openbook --epoch 1
+wanted "a book of another epoch" 11 "" "book 0: epoch 2"
+{ "$program" book --epoch 1 </dev/null; printf STAR; } | run merge --epoch 1
+wanted "a book that is cut short behind a whole one" 10 "" "bad book 1: Truncated 0"
+"$program" book --epoch 7 <examples/reports.stream | run openbook --epoch 7
+wanted "the example as a book" 0 "$(printf 'open DE~2 points=2 agree=2 members=2\nlevel 0 opened=1 few=2 noline=0 badvalue=0\nlevel 1 opened=0 few=2 noline=0 badvalue=0\nrecords=4 rows=4 refused=0')" ""
+run book --epoch 7 </
+wanted "a folder as standard input of book" 3 "" "read fault"
+told merge --epoch 7 </dev/null >/dev/full
+wanted "a full disk as standard output of merge" 4 "" "write fault"
+head -c 524289 /dev/zero | run book --epoch 7
+wanted "a byte more than a book counts" 5 "" "too many"
+
 echo "$passed passed, $failed failed"
 [ "$failed" -eq 0 ]

@@ -11,11 +11,7 @@ pub enum MergeFault {
     TooMany,
     /// The bytes behind so many books are no book, and not empty: what is wrong, and where the faulty field
     /// starts, counted from the front of these bytes.
-    BadBook {
-        book: u32,
-        kind: BookKind,
-        at: u64,
-    },
+    BadBook { book: u32, kind: BookKind, at: u64 },
     /// The book is of another epoch, which it is.
     BookEpoch { book: u32, have: u32 },
 }

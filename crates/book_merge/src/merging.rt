@@ -15,11 +15,7 @@ use std::alloc::Global;
 /// Their sum and one book are held at a time. What is wrong with a book is kept, and told once the input was
 /// read to its end, or to a byte behind the first 1,074,549,760: so a failed read and too many bytes come
 /// before it. Of what is wrong with books the first is told.
-pub fn read_sum<S: Source>(
-    alloc: Global,
-    epoch: u32,
-    input: &mut S,
-) -> Result<RowBook, MergeError>
+pub fn read_sum<S: Source>(alloc: Global, epoch: u32, input: &mut S) -> Result<RowBook, MergeError>
     ensures sum { IfOk result (IsSum epoch (S.left input.old) (S.left input.new)) }
     ensures epoch { IfOk result (λ sum. sum.epoch ≡ epoch) }
     ensures fault { IfErr result (HasFault epoch (S.left input.old) (S.left input.new)) }

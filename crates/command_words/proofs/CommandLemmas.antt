@@ -107,6 +107,7 @@ open_book_of-good options command is = go (epoch_of options) (workers_of options
     go None workers good is = cc is
     go (Some epoch) None good is = cc is
     go (Some epoch) (Some workers) good is = let it : OpenBook epoch workers ≡ command = cc is in subst HasGoodOptions it (good workers refl)
+
 -- options of `epochs` give good workers
 epochs_of-good : (options : List Pair) (command : Command) → epochs_of options ≡ Some command → HasGoodOptions command
 epochs_of-good options command is = go (workers_of options) (workers_of-good (value_of options (codes "workers"))) is
@@ -177,6 +178,7 @@ expect_of-good options command is =
     go None text seed is = cc is
     go (Some epoch) None seed is = cc is
     go (Some epoch) (Some text) seed is = made epoch text (thresholds_of One text) seed refl is
+
 -- options of `certify` give an epoch alone
 certify_of-good : (options : List Pair) (command : Command) → certify_of options ≡ Some command → HasGoodOptions command
 certify_of-good options command is = go (option_and_then (number_in 0 (2 ^ 32 - 1)) (value_of options (codes "epoch"))) is

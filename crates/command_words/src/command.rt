@@ -54,9 +54,13 @@ pub enum Command {
         seed: [u8; 32],
     },
     /// Reads a stream of records, and writes their book for an epoch.
-    Book { epoch: u32 },
+    Book {
+        epoch: u32,
+    },
     /// Reads books of an epoch, and writes their sum.
-    Merge { epoch: u32 },
+    Merge {
+        epoch: u32,
+    },
     /// Reads books of an epoch, and prints what the records of their sum tell.
     OpenBook {
         epoch: u32,
@@ -64,7 +68,9 @@ pub enum Command {
         workers: u32,
     },
     /// Reads a stream of records, and writes the certificates of what it opens for an epoch.
-    Certify { epoch: u32 },
+    Certify {
+        epoch: u32,
+    },
     /// Reads certificates, and prints a line for each.
     Audit,
     /// Reads a stream of records, and prints what it tells for each epoch.

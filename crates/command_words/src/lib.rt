@@ -4,8 +4,8 @@
 mod books;
 mod certify;
 mod command;
-mod expect;
 mod epochs;
+mod expect;
 mod generate;
 pub mod laws;
 mod make;

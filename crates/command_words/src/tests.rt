@@ -225,8 +225,15 @@ const FAULTY_CERTIFICATES: [&str; 9] = [
 #[test]
 fn options_of_certify(rt: HostRuntime) -> Result<(), Fail> {
     let alloc = rt.alloc();
-    for (line, epoch) in [("certify --epoch 7", 7), ("certify --epoch=4294967295", 4294967295)] {
-        assert_eq!(rt; read(alloc, line)?, Ok(Command::Certify { epoch }), "{line}");
+    for (line, epoch) in [
+        ("certify --epoch 7", 7),
+        ("certify --epoch=4294967295", 4294967295),
+    ] {
+        assert_eq!(rt;
+            read(alloc, line)?,
+            Ok(Command::Certify { epoch }),
+            "{line}"
+        );
     }
     for line in FAULTY_CERTIFICATES {
         assert_eq!(rt; read(alloc, line)?, Err(WordsError::Usage), "{line}");

@@ -13,9 +13,9 @@ mod paths;
 mod summary;
 mod text;
 
+pub use names::name_of_why;
 pub use opened::open_lines;
 pub use paths::push_step;
-pub use names::name_of_why;
 pub use summary::summary_of;
 pub use text::text_of;
 

@@ -119,7 +119,7 @@ foretold_text epoch thresholds seed bytes drawn low t none says =
 pub foretold_reveal : (epoch : ℕ) (thresholds seed bytes drawn : List ℕ) → epoch < 2 ^ 32 → AreThresholds One thresholds → make_refusal One thresholds bytes ≡ None
     → SaysClear (expect_output epoch thresholds seed bytes)
     → let revealed = reveal_of epoch (stream_records (make_output epoch One thresholds (Some seed) bytes drawn)) in
-      text_of revealed ≡ flat_map open_line revealed.groups ++ level_lines revealed.levels ++ flat_map aux_line revealed.aux ++ last_line revealed
+    text_of revealed ≡ flat_map open_line revealed.groups ++ level_lines revealed.levels ++ flat_map aux_line revealed.aux ++ last_line revealed
 unfolding text_of
 foretold_reveal epoch thresholds seed bytes drawn low t none says =
     let revealed = reveal_of epoch (stream_records (make_output epoch One thresholds (Some seed) bytes drawn)) in

@@ -1,5 +1,5 @@
 // The text of `audit`.
-ghost use Rattle.std.specs.Prelude.{◌≡◌, ◌<◌, ◌≤◌, ◌^◌, ◌++◌, ◌×◌, length, drop, None, IfOk, IfErr, OnOk, string_bytes};
+ghost use Rattle.std.specs.Prelude.{◌≡◌, ◌<◌, ◌≤◌, ◌^◌, ◌++◌, length, drop, None, IfOk, IfErr, OnOk, string_bytes};
 ghost use Rattle.cert_audit.specs.Audit.{verdict_of};
 ghost use Rattle.cert_audit.specs.Certificate.{IsCert, BeginsWith};
 ghost use Rattle.cert_audit.specs.Reading.{reading};

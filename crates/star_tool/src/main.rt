@@ -1,12 +1,12 @@
 //! A tool for streams of reports.
 #![tactic(auto)]
 
-mod book_walk;
 mod audit_text;
+mod book_walk;
 mod check_text;
 mod coins;
-mod expect_text;
 mod epochs_text;
+mod expect_text;
 mod feed;
 mod file_source;
 pub mod laws;
@@ -20,8 +20,8 @@ mod verbs;
 pub use check_text::check_text;
 pub use client_table::{TableError, read_table};
 pub use command_words::{Command, Thresholds, Words, WordsError, words_of};
-pub use expect_text::expect_text;
 pub use epochs_text::epochs_text;
+pub use expect_text::expect_text;
 pub use file_source::FileSource;
 use recovery_pool::NoGate;
 pub use run::run;

@@ -12,12 +12,12 @@ ghost use Rattle.star_tool.specs.declared.status.Status.{Status};
 
 use crate::output::tell;
 use crate::status::Status;
-use crate::verbs::book::book_output;
 use crate::verbs::audit::audit_output;
+use crate::verbs::book::book_output;
 use crate::verbs::certify::certify_output;
 use crate::verbs::check::check_output;
-use crate::verbs::expect::expect_output;
 use crate::verbs::epochs::epochs_output;
+use crate::verbs::expect::expect_output;
 use crate::verbs::generate::gen_output;
 use crate::verbs::make::make_output;
 use crate::verbs::merge::merge_output;

@@ -5,7 +5,10 @@ ghost use Rattle.book_file.specs.Names.{name_of as book_fault_name};
 ghost use Rattle.cert_audit.specs.Names.{name_of as cert_fault_name};
 ghost use Rattle.star_tool.specs.Status.{number_of, line_of};
 
-use crate::verbs::{audit, book, certify, check, epochs, expect, generate, make, merge, open_book, reveal, self_test};
+use crate::verbs::{
+    audit, book, certify, check, epochs, expect, generate, make, merge, open_book, reveal,
+    self_test,
+};
 use book_file::BookKind;
 use book_merge::{MergeError, MergeFault};
 use cert_audit::CertKind;

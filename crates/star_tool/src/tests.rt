@@ -338,6 +338,8 @@ fn each_status_has_its_number_and_line(rt: HostRuntime) -> Result<(), Fail> {
             Status::BookEpoch { book: 3, have: 2 },
             11,
             "book 3: epoch 2\n",
+        ),
+        (
             Status::BadCert {
                 cert: 3,
                 kind: CertKind::Range,

@@ -1,11 +1,11 @@
 // What each verb does, in a file of its own.
 
-pub(crate) mod book;
 pub(crate) mod audit;
+pub(crate) mod book;
 pub(crate) mod certify;
 pub(crate) mod check;
-pub(crate) mod expect;
 pub(crate) mod epochs;
+pub(crate) mod expect;
 pub(crate) mod generate;
 pub(crate) mod make;
 pub(crate) mod merge;

@@ -51,5 +51,5 @@ returns-clause-output g c = λ coins.
     c.in_ok-bytes.bytes.items c.in_ok-text.text.items c.in_ok-bytes.ensures.bytes c.in_ok-bytes.ensures.few
     (good_table _ _ _ _ c.as_slice-thresholds.ensures.value c.deref.ensures.value c.in_ok-table.ensures.good)
     (same_text c.in_ok-prefixes.prefixes c.in_ok-clear.clear c.in_ok-table.table c.as_slice-thresholds.result.now c.args.thresholds.now c.deref.result.now c.in_ok-bytes.bytes.items c.args.epoch c.args.seed.now c.in_ok-text.text.items
-      c.as_slice-thresholds.ensures.value c.deref.ensures.value c.in_ok-table.ensures.table c.in_ok-prefixes.ensures.prefixes c.in_ok-clear.ensures.test
-      (c.in_ok-text.ensures ∙ ap (λ (gs : List OpenedGroup). expect_text_of gs c.in_ok-clear.clear) c.as_slice.ensures))
+    c.as_slice-thresholds.ensures.value c.deref.ensures.value c.in_ok-table.ensures.table c.in_ok-prefixes.ensures.prefixes c.in_ok-clear.ensures.test
+    (c.in_ok-text.ensures ∙ ap (λ (gs : List OpenedGroup). expect_text_of gs c.in_ok-clear.clear) c.as_slice.ensures))
