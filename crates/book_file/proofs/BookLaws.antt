@@ -1,6 +1,5 @@
 -- The sum of two books is the book of both lists of records.
-use Rattle.std.proofs.Common.{◌≡◌, ℕ, ◌+◌, Bool, true, false, cond, not, ◌||◌, List, [], ◌∷◌, ◌++◌, Option, Some, None, refl, sym, ap, ap₂, ◌∙◌, subst, map, filter, length, arith, length-append}
-use Rattle.std.specs.Prelude.{is_some, unwrap_or}
+use Rattle.std.proofs.Common.{◌≡◌, ℕ, ◌+◌, Bool, true, false, cond, not, ◌||◌, List, [], ◌∷◌, ◌++◌, Option, Some, None, refl, sym, ap, ap₂, ◌∙◌, map, filter, length, arith, length-append}
 use Rattle.std.specs.Str.{bytes_eq}
 use Rattle.std.specs.BTreeMap.{is_at}
 use Rattle.std.proofs.lemmas.Map.Text.{is_eq-slice_cmp}
@@ -9,7 +8,7 @@ use Rattle.star_lists.specs.Ascending.{ascending}
 use Rattle.star_lists.proofs.Elements.{map-append}
 use Rattle.book_file.specs.Book.{Entry, Book, by_bytes}
 use Rattle.book_file.specs.BookOf.{is_taken, body_of, bodies_of, times, entry_of, book_of, entries_sum, sum_of}
-use Rattle.book_file.proofs.Entries.{Rises, found, has, same_entries, found_made, has_ascending, has-append, rises_made}
+use Rattle.book_file.proofs.Entries.{found, has, found_made, has_ascending, has-append, rises_made}
 use Rattle.book_file.proofs.Sums.{added, is_sum, sum_turns, sum_groups}
 
 filter-append : {X : Type 0} (p : X → Bool) (xs ys : List X) → filter p (xs ++ ys) ≡ filter p xs ++ filter p ys

@@ -1,5 +1,5 @@
 -- What keeps a book a book.
-use Rattle.std.proofs.Common.{◌≡◌, ℕ, zero, suc, ◌+◌, ◌-◌, ◌^◌, ◌<◌, ◌≤◌, Bool, true, false, cond, not, List, [], ◌∷◌, ◌++◌, length, Option, Some, None, refl, sym, ap, ap₂, ◌∙◌, subst, map, arith, sum}
+use Rattle.std.proofs.Common.{◌≡◌, ℕ, suc, ◌+◌, ◌-◌, ◌^◌, ◌<◌, ◌≤◌, true, false, cond, not, List, [], ◌∷◌, ◌++◌, length, Option, Some, None, refl, sym, ap, ◌∙◌, subst, map, arith, sum}
 use Rattle.std.specs.Prelude.{All, unwrap_or, nat_lt, ◌&&◌}
 use Rattle.report_frame.specs.declared.limits.TheConstants.{MAX_FRAME_ONE, MAX_FRAME_TWO}
 use Rattle.report_frame.specs.Reading.{decoded, decoded_under, begins_as_one}
@@ -18,16 +18,16 @@ use Rattle.std.proofs.lemmas.List.Elements.{All-cons, All-nil, All-head, All-tai
 use Rattle.std.proofs.lemmas.Map.Keys.{sorted_tail}
 use Rattle.star_io.specs.declared.record.TheConstants.{MAX_RECORDS}
 use Rattle.star_lists.proofs.Elements.{map-append}
-use Rattle.book_file.specs.Book.{Entry, Book, IsBook, IsBookOf, by_bytes, is_outer, is_outer_frame, count_in}
+use Rattle.book_file.specs.Book.{Entry, IsBookOf, by_bytes, is_outer, is_outer_frame, count_in}
 use Rattle.star_io.specs.declared.record.Record.{Record}
 use Rattle.star_io.specs.declared.record.Record.TheVariants.{Whole, TooLong, CutLength, CutRecord}
 use Rattle.star_lists.specs.Ascending.{ascending}
 use Rattle.std.specs.Str.{bytes_eq}
 use Rattle.std.proofs.lemmas.Map.Text.{is_eq-slice_cmp}
-use Rattle.book_file.specs.BookOf.{is_taken, body_of, taken_body, bodies_of, times, entry_of, book_of, one_book, entries_sum, sum_of}
+use Rattle.book_file.specs.BookOf.{is_taken, body_of, taken_body, bodies_of, times, entry_of, book_of, one_book, entries_sum}
 use Rattle.book_file.specs.Format.{is_above, last_of}
 use Rattle.book_file.proofs.Entries.{Rises, found, at_itself, none_later}
-use Rattle.book_file.proofs.Sums.{found_behind, sum_last, sum_nil, is_more, rises_sum, Counts, Counts-sum, All-keys_sum}
+use Rattle.book_file.proofs.Sums.{found_behind, sum_last, is_more, rises_sum, Counts, Counts-sum, All-keys_sum}
 
 -- the sum of two is one, where the totals fit
 pub is_sum_book : (e d t c u : ℕ) (xs ys zs : List Entry) → IsBookOf e d t xs → IsBookOf e c u ys → zs ≡ entries_sum xs ys → sum (values_of zs) ≡ sum (values_of xs) + sum (values_of ys) → t + u ≤ MAX_RECORDS → IsBookOf e (d + c) (t + u) zs

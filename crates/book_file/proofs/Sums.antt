@@ -1,5 +1,5 @@
 -- Sums of entries, by what is found at a frame.
-use Rattle.std.proofs.Common.{◌≡◌, ℕ, zero, suc, length, take, ◌+◌, ◌-◌, ◌≤◌, Bool, true, false, cond, ◌||◌, List, [], ◌∷◌, ◌++◌, Option, Some, None, refl, sym, ap, ap₂, ◌∙◌, subst, map, arith, eq-eqb, eqb-true}
+use Rattle.std.proofs.Common.{◌≡◌, ℕ, zero, suc, length, take, ◌+◌, ◌-◌, ◌≤◌, true, false, cond, ◌||◌, List, [], ◌∷◌, ◌++◌, Option, Some, None, refl, sym, ap, ◌∙◌, subst, map, arith, eq-eqb, eqb-true}
 use Rattle.std.specs.Prelude.{is_some, unwrap_or, ◌==◌, All, IsSome, IfSome, sum}
 use Rattle.std.specs.Option.{option_map}
 use Rattle.std.proofs.lemmas.Map.Entries.{sum_by-insert_entry}
@@ -22,7 +22,7 @@ use Rattle.std.specs.BTreeMap.{is_at, insert_entry}
 use Rattle.std.proofs.lemmas.Map.Made.{is_some-lookup}
 use Rattle.star_lists.specs.Ascending.{ascending}
 use Rattle.book_file.specs.Book.{Entry, by_bytes, count_in}
-use Rattle.book_file.specs.BookOf.{summed, entries_sum}
+use Rattle.book_file.specs.BookOf.{entries_sum}
 use Rattle.book_file.proofs.Entries.{Rises, found, has, at_same, at_itself, none_later, same_entries, found_made, has_ascending, has-append, rises_made}
 
 -- both counts, where one of them is there

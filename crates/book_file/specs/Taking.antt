@@ -1,7 +1,6 @@
 -- How far a book is read from a source with known bytes.
-use Rattle.std.specs.Prelude.{◌≡◌, ℕ, ◌+◌, ◌<◌, List, length, drop, Option, Some, Err}
+use Rattle.std.specs.Prelude.{◌≡◌, ℕ, ◌<◌, List, length, drop, Option, Some, Err}
 use Rattle.book_file.specs.declared.book_kind.BookKind.{BookKind}
-use Rattle.book_file.specs.declared.book_error.BadBook.{BadBook}
 use Rattle.book_file.specs.declared.book_error.NextBookError.{NextBookError}
 use Rattle.book_file.specs.declared.book_error.NextBookError.TheVariants.{Read, NoMemory, Bad}
 use Rattle.book_file.specs.Format.{Format}

@@ -1,8 +1,7 @@
-use Rattle.std.proofs.Common.{◌≡◌, ◌+◌, [], ◌∷◌, sym, ap, ◌∙◌, sum, arith}
+use Rattle.std.proofs.Common.{◌≡◌, ◌+◌, [], ◌∷◌, ap, ◌∙◌, sum}
 use Rattle.std.specs.Prelude.{unwrap_or}
 use Rattle.std.specs.Map.{values_of}
-use Rattle.std.specs.BTreeMap.{insert_entry}
-use Rattle.book_file.specs.Book.{by_bytes, count_in}
+use Rattle.book_file.specs.Book.{count_in}
 use Rattle.book_file.specs.BookOf.{entries_sum}
 use Rattle.book_file.proofs.Sums.{is_more, total_more}
 use Rattle.book_file.proofs.counts.count_more.Goals as goal

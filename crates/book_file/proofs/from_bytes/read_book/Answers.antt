@@ -1,4 +1,4 @@
-use Rattle.std.proofs.Common.{◌≡◌, ap, inr, Some, Err}
+use Rattle.std.proofs.Common.{ap, inr, Some, Err}
 use Rattle.star_io.proofs.ByteLists.{AreBytes-from_fits}
 use Rattle.book_file.specs.declared.book_kind.BookKind.TheVariants.{Truncated}
 use Rattle.book_file.specs.declared.book_error.BookError.TheVariants.{Bad}

@@ -1,7 +1,5 @@
-use Rattle.std.proofs.Common.{◌≡◌, ◌+◌, ◌*◌, ◌-◌, ◌<◌, ◌≤◌, suc, sym, ap, ◌∙◌, subst, arith}
+use Rattle.std.proofs.Common.{◌≡◌, ◌+◌, ◌-◌, suc, arith}
 use Rattle.std.proofs.lemmas.Result.{err_from_is_err_and}
-use Rattle.book_file.specs.Format.{entries_format}
-use Rattle.book_file.specs.Taking.{Stands}
 use Rattle.book_file.proofs.Fields.{takes_fault, book_ends, entries_at}
 use Rattle.book_file.proofs.from_source.next_book.Goals as goal
 

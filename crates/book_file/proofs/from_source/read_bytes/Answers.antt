@@ -1,6 +1,6 @@
 use Rattle.std.proofs.Common.{◌≡◌, ◌+◌, ◌++◌, length, take, drop, sym, ap, ◌∙◌, subst, arith}
 use Rattle.std.specs.Io.KnownBytes.{Consumes}
-use Rattle.std.proofs.lemmas.List.{take_all, length-take-le, length-replicate}
+use Rattle.std.proofs.lemmas.List.{take_all, length-take-le}
 use Rattle.book_file.specs.declared.book_kind.BookKind.TheVariants.{Truncated}
 use Rattle.book_file.specs.declared.book_error.NextBookError.TheVariants.{Bad}
 use Rattle.book_file.specs.Taking.{IsFault, IsJudged}

@@ -1,9 +1,8 @@
-use Rattle.std.proofs.Common.{◌≡◌, ℕ, suc, ◌+◌, sym, ap, ◌∙◌, refl, subst, arith}
+use Rattle.std.proofs.Common.{◌+◌, sym, ap, ◌∙◌, refl, subst, arith}
 use Rattle.std.proofs.lemmas.Result.{err_from_is_err_and}
-use Rattle.std.specs.Int.{w16, w32, from_be_bytes}
-use Rattle.book_file.specs.Book.{Book}
+use Rattle.std.specs.Int.{w16, from_be_bytes}
 use Rattle.book_file.specs.Format.{never, with_entry, entries_format, count_fault, frame_fault}
-use Rattle.book_file.specs.Taking.{Stands, IsJudged}
+use Rattle.book_file.specs.Taking.{Stands}
 use Rattle.book_file.proofs.Fields.{judged_fine, judged_as, judged_to, field_at, entry_field, after_frame, after_size, after_count, count_wrong}
 use Rattle.book_file.proofs.from_source.read_entry.Goals as goal
 

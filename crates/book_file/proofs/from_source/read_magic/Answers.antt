@@ -1,4 +1,4 @@
-use Rattle.std.proofs.Common.{◌≡◌, ℕ, ◌+◌, ◌<◌, List, Option, length, take, sym, ap, ◌∙◌, subst, arith, Some}
+use Rattle.std.proofs.Common.{◌≡◌, ◌+◌, length, take, sym, ap, ◌∙◌, subst, arith}
 use Rattle.std.specs.Io.KnownBytes.{Consumes}
 use Rattle.std.specs.Str.{bytes_eq}
 use Rattle.std.proofs.lemmas.List.{take_all, length-take-le}
@@ -7,7 +7,7 @@ use Rattle.book_file.specs.declared.limits.TheConstants.{BOOK_MAGIC}
 use Rattle.book_file.specs.declared.book_kind.BookKind.TheVariants.{Truncated, Magic}
 use Rattle.book_file.specs.declared.book_error.NextBookError.TheVariants.{Bad}
 use Rattle.book_file.specs.Format.{unless, header_format}
-use Rattle.book_file.specs.Taking.{Stands, IsFault}
+use Rattle.book_file.specs.Taking.{IsFault}
 use Rattle.book_file.proofs.Fields.{field_taken, field_cut, magic_field, judged_as, some_taken}
 use Rattle.book_file.proofs.from_source.read_magic.Goals as goal
 

@@ -1,5 +1,5 @@
-use Rattle.std.proofs.Common.{◌≡◌, ◌+◌, ◌<◌, ◌≤◌, [], ◌∷◌, true, refl, sym, ap, ◌∙◌, subst, arith, sum}
-use Rattle.std.specs.Prelude.{None, Some}
+use Rattle.std.proofs.Common.{◌≡◌, ◌+◌, ◌<◌, ◌≤◌, [], ◌∷◌, true, sym, ap, ◌∙◌, subst, arith, sum}
+use Rattle.std.specs.Prelude.{Some}
 use Rattle.std.specs.Map.{values_of}
 use Rattle.star_io.specs.declared.record.TheConstants.{MAX_RECORDS}
 use Rattle.book_file.specs.Book.{Book, IsBookOf, total_of, is_outer_frame}

@@ -1,4 +1,4 @@
-use Rattle.std.proofs.Common.{◌≡◌, ◌+◌, sym, ap, ◌∙◌}
+use Rattle.std.proofs.Common.{◌+◌, sym, ap, ◌∙◌}
 use Rattle.std.specs.Prelude.{None}
 use Rattle.book_file.specs.Book.{Book}
 use Rattle.book_file.specs.BookOf.{one_book, sum_of}

@@ -1,4 +1,4 @@
-use Rattle.std.proofs.Common.{◌≤◌, ◌^◌, arith, length}
+use Rattle.std.proofs.Common.{arith}
 use Rattle.book_file.proofs.Books.{few_entries}
 use Rattle.book_file.proofs.book.RowBook.header.Goals as goal
 
