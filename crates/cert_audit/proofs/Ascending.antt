@@ -1,5 +1,5 @@
 -- Numbers that ascend strictly from a number on, by recursion.
-use Rattle.std.proofs.Common.{◌≡◌, ℕ, zero, suc, ◌+◌, ◌<◌, List, [], ◌∷◌, length, slice_index, arith, subst, sym}
+use Rattle.std.proofs.Common.{◌≡◌, ℕ, zero, suc, ◌+◌, ◌<◌, List, [], ◌∷◌, length, slice_index, arith, subst}
 use Rattle.std.specs.List.Sorted.{IsStrictlyIncreasing}
 
 -- the first of the numbers is above this one, and each of the others above the one before it

@@ -3,11 +3,10 @@ use Rattle.std.proofs.Common.{◌≡◌, ℕ, ◌+◌, List, [], ◌++◌, lengt
 use Rattle.std.specs.Prelude.{◌⊎◌, ◌↔◌, All}
 use Rattle.star_io.specs.Bytes.{AreBytes}
 use Rattle.report_frame.specs.Format.{Entry}
-use Rattle.cert_audit.specs.declared.kind.CertKind.{CertKind}
 use Rattle.cert_audit.specs.declared.fault.CertFault.{CertFault}
 use Rattle.cert_audit.specs.declared.cert.Cert.{Cert}
 use Rattle.cert_audit.specs.declared.cert.ReadCert.{ReadCert}
-use Rattle.cert_audit.specs.Layout.{After, IsDone, spelling}
+use Rattle.cert_audit.specs.Layout.{spelling}
 use Rattle.cert_audit.specs.Certificate.{InRange, certificate, entries, cert_spelling, BeginsWith, FaultAt}
 use Rattle.cert_audit.specs.Reading.{◌>>=◌, fault_at, read, reading, cert_from}
 use Rattle.cert_audit.specs.Laws.{BeginsWithOne, HasOneFault}

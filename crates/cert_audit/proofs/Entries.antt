@@ -1,7 +1,7 @@
 -- The certificate as a layout: what its entries are, and which certificate entries are those of.
-use Rattle.std.proofs.Common.{◌≡◌, ℕ, zero, suc, ◌+◌, ◌-◌, ◌*◌, ◌^◌, ◌<◌, ◌≤◌, List, [], ◌∷◌, ◌++◌, length, map, drop, slice_index, refl, sym, ap, ap₂, subst, ◌∙◌, append_assoc, rules, arith, length-append}
+use Rattle.std.proofs.Common.{◌≡◌, ℕ, zero, suc, ◌+◌, ◌*◌, ◌<◌, ◌≤◌, List, [], ◌∷◌, ◌++◌, length, map, drop, slice_index, refl, sym, ap, ap₂, subst, ◌∙◌, append_assoc, rules, arith, length-append}
 use Rattle.std.specs.Prelude.{All}
-use Rattle.std.proofs.lemmas.List.{drop_at, append-nil}
+use Rattle.std.proofs.lemmas.List.{drop_at}
 use Rattle.std.proofs.lemmas.List.Elements.{All-nil, All-cons, All-head, All-tail, All-weaker}
 use Rattle.field61.specs.declared.TheConstants.{MODULUS}
 use Rattle.field61.specs.Field.{AreElements}
@@ -9,19 +9,17 @@ use Rattle.report_frame.specs.declared.head.Head.{Head}
 use Rattle.report_frame.specs.declared.version.Version.{Version}
 use Rattle.report_frame.specs.Versions.{version_number, version_of, max_level, max_threshold}
 use Rattle.report_frame.specs.Format.{Size, Entry}
-use Rattle.report_frame.specs.Format.Size.{EightBytes}
 use Rattle.report_frame.specs.Format.Entry.{Number, Bytes}
 use Rattle.report_frame.specs.Reading.{number_in}
 use Rattle.report_frame.proofs.VersionFacts.{version_of_number, number_of_version, number_low, number_high, level_fits, threshold_fits}
 use Rattle.shamir_limbs.specs.declared.share.Point.{Point}
 use Rattle.shamir_limbs.specs.KeyLine.{xs_of}
 use Rattle.cert_audit.specs.declared.kind.CertKind.{CertKind}
-use Rattle.cert_audit.specs.declared.kind.CertKind.TheVariants.{Range}
-use Rattle.cert_audit.specs.declared.limits.TheConstants.{CERT_MAGIC, CERT_FORMAT, MAX_POINTS}
+use Rattle.cert_audit.specs.declared.limits.TheConstants.{CERT_MAGIC, CERT_FORMAT}
 use Rattle.cert_audit.specs.declared.cert.Cert.{Cert}
 use Rattle.cert_audit.specs.Layout.{Layout, After, IsDone}
-use Rattle.cert_audit.specs.Layout.Layout.{Done, NumberField, BytesField}
-use Rattle.cert_audit.specs.Certificate.{IsCert, IsPoint, InRange, numbers_layout, points_layout, certificate, front_entries, entries_of_point, point_entries, number_entries, entries}
+use Rattle.cert_audit.specs.Layout.Layout.{NumberField, BytesField}
+use Rattle.cert_audit.specs.Certificate.{IsPoint, InRange, numbers_layout, points_layout, certificate, front_entries, point_entries, number_entries, entries}
 use Rattle.cert_audit.specs.Reading.{points_in, cert_from}
 use Rattle.cert_audit.proofs.Ascending.{AscendFrom, AscendFrom-increasing, increasing-AscendFrom}
 use Rattle.cert_audit.proofs.Walk.{IsSound}

@@ -1,5 +1,5 @@
 -- Reading the fields of a certificate up to its threshold.
-use Rattle.std.proofs.Common.{◌≡◌, ℕ, ◌+◌, ◌-◌, ◌*◌, ◌^◌, ◌≤◌, List, [], ◌∷◌, ◌++◌, Result, Ok, Err, refl, sym, ap, ◌∙◌, arith, IfOk, IfErr}
+use Rattle.std.proofs.Common.{◌≡◌, ℕ, ◌-◌, ◌*◌, ◌^◌, ◌≤◌, List, [], ◌∷◌, Result, Ok, Err, refl, ap, ◌∙◌, arith, IfOk, IfErr}
 use Rattle.report_frame.specs.declared.limits.TheConstants.{MIN_THRESHOLD}
 use Rattle.report_frame.specs.declared.version.Version.{Version}
 use Rattle.report_frame.specs.declared.version.Version.TheVariants.{One, Two}
@@ -11,7 +11,6 @@ use Rattle.report_frame.proofs.VersionFacts.{version_of_number}
 use Rattle.cert_audit.specs.declared.kind.CertKind.TheVariants.{Magic, Format, Range}
 use Rattle.cert_audit.specs.declared.limits.TheConstants.{CERT_MAGIC, CERT_FORMAT}
 use Rattle.cert_audit.specs.declared.fault.CertFault.{CertFault}
-use Rattle.cert_audit.specs.declared.front.Start.{Start}
 use Rattle.cert_audit.specs.declared.front.Front.{Front}
 use Rattle.cert_audit.specs.Layout.{Layout}
 use Rattle.cert_audit.specs.Layout.Layout.{NumberField}

@@ -1,5 +1,5 @@
 -- What an audit says yes to is opened so, and what is opened so has a certificate that it says yes to.
-use Rattle.std.proofs.Common.{◌≡◌, ℕ, [], ◌∷◌, ◌+◌, ◌-◌, ◌*◌, ◌<◌, ◌≤◌, Bool, true, false, ltb, List, Option, Some, None, take, drop, refl, sym, ap, ◌∙◌, length, subst, slice_index, arith}
+use Rattle.std.proofs.Common.{◌≡◌, ℕ, [], ◌∷◌, ◌+◌, ◌-◌, ◌*◌, ◌<◌, ◌≤◌, Bool, true, false, ltb, List, Option, Some, None, drop, refl, sym, ap, ◌∙◌, length, arith}
 use Rattle.std.specs.Prelude.{if◌then◌else◌, not, slice_range, ◌↔◌, IsSome, is_some}
 use Rattle.std.proofs.lemmas.Bool.{false≢true, lt-ltb, le-ltb, ltb-true, ltb-false, and_parts, and_from}
 use Rattle.std.proofs.lemmas.List.{get_or_past, length-take}
@@ -10,9 +10,9 @@ use Rattle.shamir_limbs.specs.declared.key.Key.{Key}
 use Rattle.shamir_limbs.specs.declared.share.Point.{Point}
 use Rattle.shamir_limbs.specs.declared.recovery.Recovered.{Recovered}
 use Rattle.shamir_limbs.specs.Coefficients.{values}
-use Rattle.shamir_limbs.specs.KeyLine.{xs_of, AreDistinct, HasDegreeBelow, values_at_zero, agreement_of_all, IsKeyLine}
+use Rattle.shamir_limbs.specs.KeyLine.{xs_of, AreDistinct, HasDegreeBelow, agreement_of_all, IsKeyLine}
 use Rattle.shamir_limbs.specs.Limbs.{AreLimbs}
-use Rattle.shamir_limbs.specs.Search.{are_limbs, recovered_from, key_line_of}
+use Rattle.shamir_limbs.specs.Search.{are_limbs}
 use Rattle.shamir_limbs.proofs.LineSearch.{line_of_polynomials}
 use Rattle.cert_audit.specs.declared.cert.Cert.{Cert}
 use Rattle.cert_audit.specs.declared.verdict.Verdict.{Verdict}

@@ -1,5 +1,5 @@
 -- One point or number more, read and spelt.
-use Rattle.std.proofs.Common.{◌≡◌, ℕ, zero, suc, ◌+◌, ◌-◌, ◌*◌, ◌<◌, List, [], ◌∷◌, ◌++◌, length, map, slice_index, get_or, take, drop, Result, Ok, Err, refl, sym, ap, ◌∙◌, append_assoc, arith}
+use Rattle.std.proofs.Common.{◌≡◌, ℕ, suc, ◌+◌, ◌-◌, ◌*◌, ◌<◌, List, [], ◌∷◌, ◌++◌, length, get_or, take, drop, Ok, Err, refl, sym, ap, ◌∙◌, append_assoc, arith}
 use Rattle.std.specs.Int.{w64, to_be_bytes}
 use Rattle.std.proofs.lemmas.List.{take_more, drop-drop}
 use Rattle.field61.specs.declared.TheConstants.{MODULUS}
@@ -9,7 +9,7 @@ use Rattle.report_frame.specs.Format.Entry.{Number, Bytes}
 use Rattle.shamir_limbs.specs.declared.share.Point.{Point}
 use Rattle.cert_audit.specs.declared.kind.CertKind.TheVariants.{Range}
 use Rattle.cert_audit.specs.declared.fault.CertFault.{CertFault}
-use Rattle.cert_audit.specs.Layout.{Layout, After, IsDone, spelling}
+use Rattle.cert_audit.specs.Layout.{Layout, After, spelling}
 use Rattle.cert_audit.specs.Layout.Layout.{Done, NumberField, BytesField}
 use Rattle.cert_audit.specs.Certificate.{numbers_layout, points_layout, entries_of_point, point_entries, number_entries, bytes_of_point, point_bytes, number_bytes}
 use Rattle.cert_audit.specs.Reading.{number_at, read}

@@ -17,7 +17,7 @@ use Rattle.cert_audit.specs.declared.kind.CertKind.{CertKind}
 use Rattle.cert_audit.specs.declared.kind.CertKind.TheVariants.{Magic, Format, Range}
 use Rattle.cert_audit.specs.declared.limits.TheConstants.{CERT_MAGIC, CERT_FORMAT, MAX_POINTS}
 use Rattle.cert_audit.specs.declared.cert.Cert.{Cert}
-use Rattle.cert_audit.specs.Layout.{Layout, After, spelling, IsDone, IsWrong}
+use Rattle.cert_audit.specs.Layout.{Layout, After, spelling, IsWrong}
 use Rattle.cert_audit.specs.Layout.Layout.{Done, NumberField, BytesField}
 
 -- ---- certificates

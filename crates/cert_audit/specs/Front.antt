@@ -1,5 +1,5 @@
 -- What stands in the fields of a certificate before its points.
-use Rattle.std.specs.Prelude.{ℕ, List, [], ◌∷◌, ◌++◌, length}
+use Rattle.std.specs.Prelude.{List, [], ◌∷◌, length}
 use Rattle.report_frame.specs.declared.head.Head.{Head}
 use Rattle.report_frame.specs.Versions.{version_number}
 use Rattle.report_frame.specs.Format.{Entry}

@@ -1,5 +1,5 @@
 -- Reading bytes by a layout from left to right, to all entries or to the first fault.
-use Rattle.std.specs.Prelude.{◌≡◌, ◌≢◌, ℕ, zero, suc, ◌+◌, ◌*◌, List, [], ◌∷◌, ◌++◌, length, map, take, drop, Result, Ok, Err, nat_lt, ◌||◌, if◌then◌else◌}
+use Rattle.std.specs.Prelude.{◌≡◌, ℕ, zero, suc, ◌+◌, ◌*◌, List, [], ◌∷◌, ◌++◌, length, map, take, drop, Result, Ok, Err, nat_lt, ◌||◌, if◌then◌else◌}
 use Rattle.report_frame.specs.Versions.{version_of}
 use Rattle.report_frame.specs.Format.{Size, Entry, bytes_of, number_of}
 use Rattle.report_frame.specs.Format.Entry.{Number, Bytes}

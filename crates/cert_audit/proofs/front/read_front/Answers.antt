@@ -1,4 +1,4 @@
-use Rattle.std.proofs.Common.{◌≡◌, ℕ, ◌-◌, ◌^◌, List, [], Ok, subst}
+use Rattle.std.proofs.Common.{◌≡◌, ℕ, [], Ok, subst}
 use Rattle.report_frame.specs.declared.limits.TheConstants.{MIN_THRESHOLD}
 use Rattle.report_frame.specs.Format.Size.{OneByte, TwoBytes}
 use Rattle.report_frame.specs.Versions.{max_level, max_threshold}

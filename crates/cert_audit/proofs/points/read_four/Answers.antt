@@ -1,4 +1,4 @@
-use Rattle.std.proofs.Common.{◌≡◌, ◌∙◌, ℕ, suc, ◌+◌, List, length, drop, Err, ap, arith, length-drop}
+use Rattle.std.proofs.Common.{◌≡◌, ◌∙◌, ℕ, suc, ◌+◌, List, length, Err, ap, arith, length-drop}
 use Rattle.report_frame.specs.Format.{Entry}
 use Rattle.cert_audit.specs.declared.fault.CertFault.{CertFault}
 use Rattle.cert_audit.specs.Layout.{Layout}

@@ -1,4 +1,4 @@
-use Rattle.std.proofs.Common.{◌≡◌, ℕ, ◌+◌, ◌-◌, ◌*◌, ◌≤◌, List, ◌++◌, length, drop, vec_len, vec_capacity}
+use Rattle.std.proofs.Common.{◌≡◌, ◌+◌, ◌-◌, ◌*◌, ◌≤◌, List, ◌++◌, length, drop, vec_len, vec_capacity}
 use Rattle.std.specs.Prelude.{All}
 use Rattle.report_frame.specs.Format.{Entry}
 use Rattle.cert_audit.specs.Layout.{Layout}

@@ -1,4 +1,4 @@
-use Rattle.std.proofs.Common.{◌≡◌, ◌∙◌, ℕ, ◌+◌, ◌*◌, List, [], ◌-◌, ◌++◌, length, take, drop, Err, Ok, refl, sym, ap, subst}
+use Rattle.std.proofs.Common.{◌≡◌, ◌∙◌, ℕ, ◌+◌, ◌*◌, List, [], ◌-◌, ◌++◌, length, take, drop, Ok, refl, sym, ap, subst}
 use Rattle.std.proofs.lemmas.List.{take_rest}
 use Rattle.star_io.proofs.ByteLists.{AreBytes-from_fits}
 use Rattle.report_frame.specs.declared.head.Head.{Head}
