@@ -4,7 +4,6 @@ use field61::Fe;
 use layer_walk::{OpenedGroup, Path, Step};
 use report_frame::{MAX_LAYERS, Table, Value, Version};
 use star_io::NoMemory;
-use std::alloc::Global;
 
 fn value(text: &[u8]) -> Value {
     Value::of(text).unwrap_or_default()
@@ -28,24 +27,14 @@ fn group(path: Path, members: u32) -> OpenedGroup {
     }
 }
 
-// Four colours with shades. Two begin with `red,dark`, and three with `red`.
-fn colours(alloc: Global) -> Result<Table, NoMemory> {
+#[test]
+fn prefixes_that_enough_rows_begin_with(rt: HostRuntime) -> Result<(), NoMemory> {
+    let alloc = rt.alloc();
     let mut table = Table::new(alloc);
     table.add_row(&[value(b"red"), value(b"dark")])?;
     table.add_row(&[value(b"blue"), value(b"dark")])?;
     table.add_row(&[value(b"red"), value(b"light")])?;
     table.add_row(&[value(b"red"), value(b"dark")])?;
-    Ok(table)
-}
-
-#[test]
-fn prefixes_that_enough_rows_begin_with(rt: HostRuntime) -> Result<(), NoMemory> {
-    let alloc = rt.alloc();
-    let table = colours(alloc)?;
-    assert!(rt; table.len() == 4);
-    for i in 0..4 {
-        assert!(rt; table.row(i).len() == 2);
-    }
     let red = Path::new().with(step(b"red", 3));
     let dark = red.with(step(b"dark", 2));
     let groups = expected(alloc, &table, &[3, 2], 7, &[0; 32])?;
