@@ -1,5 +1,5 @@
 -- The command `epochs`.
-use Rattle.std.proofs.Common.{◌≡◌, ◌∙◌, ℕ, List, [], Some, ap, subst}
+use Rattle.std.proofs.Common.{◌≡◌, ◌∙◌, ℕ, List, [], Some, ap}
 use Rattle.star_io.specs.declared.record.Record.{Record}
 use Rattle.star_io.specs.declared.record.TheConstants.{MAX_RECORDS}
 use Rattle.star_io.specs.RecordLists.{stream_records, rest_after}

@@ -1,4 +1,4 @@
-use Rattle.std.proofs.Common.{◌∙◌, ap, refl, Err}
+use Rattle.std.proofs.Common.{ap, refl, Err}
 use Rattle.command_words.specs.declared.command.Command.TheVariants.{Epochs}
 use Rattle.star_tool.specs.Seen.{seen, unseen}
 use Rattle.star_tool.proofs.Reasons.{of_error, read_reason}

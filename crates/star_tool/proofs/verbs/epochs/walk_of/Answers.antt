@@ -1,7 +1,6 @@
-use Rattle.std.proofs.Common.{◌<◌, length, arith, ◌∙◌}
+use Rattle.std.proofs.Common.{arith, ◌∙◌}
 use Rattle.std.proofs.lemmas.Iterator.Adapters.{YieldsList-from_vec}
 use Rattle.std.proofs.lemmas.Iterator.Consumers.{YieldsList-turn}
-use Rattle.star_io.specs.declared.record.TheConstants.{MAX_RECORDS}
 use Rattle.star_tool.proofs.verbs.epochs.walk_of.Goals as goal
 
 pub take-requires : goal.take-requires
