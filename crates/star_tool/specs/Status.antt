@@ -72,15 +72,24 @@ number_of (BadBook book kind at) = 10
 number_of (BookEpoch book have) = 11
 number_of (BadCert cert kind at) = 12
 
+-- the verbs and how each is written: the first five
+unfoldable pub first_usages : List ℕ
+first_usages =
+    codes "usage: star_tool " ++ check.USAGE.now ++ codes " | " ++ reveal.USAGE.now ++ codes " | " ++ make.USAGE.now ++ codes " | " ++ generate.USAGE.now
+    ++ codes " | " ++ self_test.USAGE.now
+
+-- those behind them
+unfoldable pub next_usages : List ℕ
+next_usages = codes " | " ++ expect.USAGE.now ++ codes " | " ++ book.USAGE.now ++ codes " | " ++ merge.USAGE.now ++ codes " | " ++ open_book.USAGE.now
+
+-- and the last ones
+unfoldable pub last_usages : List ℕ
+last_usages = codes " | " ++ certify.USAGE.now ++ codes " | " ++ audit.USAGE.now ++ codes " | " ++ epochs.USAGE.now ++ codes "\n"
+
 -- the line on standard error
 abbrev pub line_of : Status → List ℕ
 line_of Done = []
-line_of Usage =
-    codes "usage: star_tool " ++ check.USAGE.now ++ codes " | " ++ reveal.USAGE.now ++ codes " | " ++ make.USAGE.now ++ codes " | " ++ generate.USAGE.now
-    ++ codes " | " ++ self_test.USAGE.now
-    ++ codes " | " ++ expect.USAGE.now ++ codes " | " ++ book.USAGE.now ++ codes " | " ++ merge.USAGE.now
-    ++ codes " | " ++ open_book.USAGE.now ++ codes " | " ++ certify.USAGE.now ++ codes " | " ++ audit.USAGE.now
-    ++ codes " | " ++ epochs.USAGE.now ++ codes "\n"
+line_of Usage = first_usages ++ next_usages ++ last_usages
 line_of ReadFault = codes "read fault\n"
 line_of WriteFault = codes "write fault\n"
 line_of TooMany = codes "too many\n"

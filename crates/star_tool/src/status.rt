@@ -1,9 +1,9 @@
 // How a run ends, as its number and its line.
-ghost use Rattle.std.specs.Prelude.{◌≡◌, ◌++◌, IfOk, codes};
+ghost use Rattle.std.specs.Prelude.{◌≡◌, ◌++◌, IfOk, OnOk, codes, string_bytes};
 ghost use Rattle.std.specs.Fmt.{decimal};
 ghost use Rattle.book_file.specs.Names.{name_of as book_fault_name};
 ghost use Rattle.cert_audit.specs.Names.{name_of as cert_fault_name};
-ghost use Rattle.star_tool.specs.Status.{number_of, line_of};
+ghost use Rattle.star_tool.specs.Status.{number_of, line_of, first_usages, next_usages, last_usages};
 
 use crate::verbs::{
     audit, book, certify, check, epochs, expect, generate, make, merge, open_book, reveal,
@@ -15,7 +15,7 @@ use cert_audit::CertKind;
 use client_table::TableError;
 use star_io::{InputError, NoMemory};
 use star_vectors::SelfTestError;
-use std::alloc::Global;
+use std::alloc::{AllocError, Global};
 use std::fmt::Write;
 
 /// How a run ended.
@@ -200,23 +200,52 @@ fn usage_line(alloc: Global) -> Result<Vec<u8>, NoMemory>
     ensures { IfOk result (λ line. line.items ≡ line_of Status.Usage) }
 {
     let mut line = String::new(alloc);
+    push_first_usages(&mut line)?;
+    push_next_usages(&mut line)?;
+    push_last_usages(&mut line)?;
+    Ok(line.into_bytes())
+}
+
+#[tactic(auto, unfolding(crate::specs::Status::first_usages))]
+fn push_first_usages(line: &mut String) -> Result<(), AllocError>
+    ensures { OnOk result (string_bytes line.new ≡ string_bytes line.old ++ first_usages) }
+{
     write!(
         line,
-        "usage: star_tool {} | {} | {} | {} | {} | {} | {} | {} | {} | {} | {} | {}\n",
+        "usage: star_tool {} | {} | {} | {} | {}",
         check::USAGE,
         reveal::USAGE,
         make::USAGE,
         generate::USAGE,
-        self_test::USAGE,
+        self_test::USAGE
+    )
+}
+
+#[tactic(auto, unfolding(crate::specs::Status::next_usages))]
+fn push_next_usages(line: &mut String) -> Result<(), AllocError>
+    ensures { OnOk result (string_bytes line.new ≡ string_bytes line.old ++ next_usages) }
+{
+    write!(
+        line,
+        " | {} | {} | {} | {}",
         expect::USAGE,
         book::USAGE,
         merge::USAGE,
-        open_book::USAGE,
+        open_book::USAGE
+    )
+}
+
+#[tactic(auto, unfolding(crate::specs::Status::last_usages))]
+fn push_last_usages(line: &mut String) -> Result<(), AllocError>
+    ensures { OnOk result (string_bytes line.new ≡ string_bytes line.old ++ last_usages) }
+{
+    write!(
+        line,
+        " | {} | {} | {}\n",
         certify::USAGE,
         audit::USAGE,
         epochs::USAGE
-    )?;
-    Ok(line.into_bytes())
+    )
 }
 
 fn bad_table_line(alloc: Global, row: u32, column: u32) -> Result<Vec<u8>, NoMemory>
