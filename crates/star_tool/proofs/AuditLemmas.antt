@@ -6,7 +6,7 @@ use Rattle.std.proofs.lemmas.List.{length-drop, nil_from_length}
 use Rattle.cert_audit.specs.declared.fault.CertFault.{CertFault}
 use Rattle.command_words.specs.declared.command.Command.TheVariants.{Audit}
 use Rattle.star_tool.specs.declared.status.Status.{Status}
-use Rattle.star_tool.specs.declared.status.Status.TheVariants.{Done, Usage, ReadFault, WriteFault, TooMany, NoMemory, BadTable, ShortCoins, BadVector, BadCert}
+use Rattle.star_tool.specs.declared.status.Status.TheVariants.{Done, Usage, ReadFault, WriteFault, TooMany, NoMemory, BadTable, ShortCoins, BadVector, BadBook, BookEpoch, BadCert}
 use Rattle.star_tool.specs.declared.verbs.audit.TheConstants.{MAX_CERTS_BYTES}
 use Rattle.star_tool.specs.AuditText.{CertsIn, AuditEnds, certs_in, audit_text_of}
 use Rattle.star_tool.specs.Run.{IsRefused, IsOutput, Reason}
@@ -63,6 +63,8 @@ no_text input coins taken TooMany whole few ends = absurd ends
 no_text input coins taken (BadTable row column) whole few ends = absurd ends
 no_text input coins taken (ShortCoins have) whole few ends = absurd ends
 no_text input coins taken (BadVector number got wanted) whole few ends = absurd ends
+no_text input coins taken (BadBook book kind at) whole few ends = absurd ends
+no_text input coins taken (BookEpoch book have) whole few ends = absurd ends
 
 -- ---- the output
 

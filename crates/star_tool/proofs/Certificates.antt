@@ -1,19 +1,27 @@
 -- Certificates one after the other.
-use Rattle.std.proofs.Common.{◌≡◌, ◌∙◌, ◌<◌, ◌≤◌, ◌+◌, ◌-◌, ℕ, zero, suc, Bool, true, false, cond, List, [], ◌∷◌, ◌++◌, length, drop, Option, Some, None, Result, Ok, Err, refl, sym, ap, subst, arith, append_assoc, append-nil, length-append}
+use Rattle.std.proofs.Common.{◌≡◌, ◌∙◌, ◌<◌, ◌≤◌, ◌+◌, ◌-◌, ℕ, zero, suc, Bool, true, false, cond, List, [], ◌∷◌, ◌++◌, length, drop, Option, Some, None, Result, Ok, Err, refl, sym, ap, subst, arith, append_assoc, append-nil, length-append, zero-add}
 use Rattle.std.specs.Prelude.{count_by}
 use Rattle.std.proofs.lemmas.List.{length-drop, drop-drop}
-use Rattle.std.specs.Int.{w64, to_be_bytes}
-use Rattle.report_frame.specs.Format.Size.{EightBytes}
+use Rattle.std.proofs.lemmas.List.Sums.{sum_by-append}
+use Rattle.std.specs.Int.{to_be_bytes}
+use Rattle.report_frame.specs.declared.version.Version.TheVariants.{One, Two}
+use Rattle.report_frame.specs.Versions.{version_number, version_of}
+use Rattle.report_frame.specs.Format.{Entry, width}
+use Rattle.report_frame.specs.Format.Size.{OneByte, EightBytes}
+use Rattle.report_frame.specs.Format.Entry.{Number}
 use Rattle.report_frame.proofs.Sizes.{length_of_spelling}
-use Rattle.cert_audit.specs.declared.limits.TheConstants.{CERT_MAGIC}
+use Rattle.cert_audit.specs.declared.limits.TheConstants.{CERT_MAGIC, CERT_FORMAT}
+use Rattle.cert_audit.specs.declared.kind.CertKind.TheVariants.{Magic, Format, Range}
+use Rattle.cert_audit.specs.Layout.{Layout, spelling}
+use Rattle.cert_audit.specs.Layout.Layout.{NumberField}
 use Rattle.cert_audit.specs.declared.cert.Cert.{Cert}
 use Rattle.cert_audit.specs.declared.cert.ReadCert.{ReadCert}
 use Rattle.cert_audit.specs.declared.fault.CertFault.{CertFault}
 use Rattle.cert_audit.specs.Audit.{verdict_of}
-use Rattle.cert_audit.specs.Certificate.{BeginsWith, cert_spelling}
+use Rattle.cert_audit.specs.Certificate.{BeginsWith, behind_version, entries, cert_spelling}
 use Rattle.cert_audit.specs.Reading.{reading}
 use Rattle.star_tool.specs.declared.status.Status.{Status}
-use Rattle.star_tool.specs.declared.status.Status.TheVariants.{Done, Usage, ReadFault, WriteFault, TooMany, NoMemory, BadTable, ShortCoins, BadVector, BadCert}
+use Rattle.star_tool.specs.declared.status.Status.TheVariants.{Done, Usage, ReadFault, WriteFault, TooMany, NoMemory, BadTable, ShortCoins, BadVector, BadBook, BookEpoch, BadCert}
 use Rattle.star_tool.specs.AuditText.{CertsIn, CertEnds, AuditEnds, WritesVerdict, put_first, first_certs, certs_in, cert_line, cert_lines, is_yes, audit_text_of, last_line}
 
 -- the verdict on the certificate is Yes
@@ -27,10 +35,16 @@ behind done found = record { certs = done ++ found.certs; fault = found.fault }
 front_some : (front rest : List ℕ) → 1 ≤ length front → 1 ≤ length (front ++ rest)
 front_some front rest some = omega (arith, length-append front rest)
 
+some_spelt : (n : ℕ) (next : ℕ → Layout) (es : List Entry) → 1 ≤ length (spelling (NumberField EightBytes Magic CERT_MAGIC CERT_MAGIC next) (Number n ∷ es))
+some_spelt n next es = front_some (to_be_bytes (width EightBytes) n) (spelling (next n) es) (omega (arith, length_of_spelling EightBytes n))
+
 -- the spelling of a certificate has a byte
 pub some_bytes : (cert : Cert) → 1 ≤ length (cert_spelling cert)
 unfolding cert_spelling
-some_bytes cert = front_some (to_be_bytes w64 CERT_MAGIC) _ (omega (arith, length_of_spelling EightBytes CERT_MAGIC))
+some_bytes cert =
+    some_spelt CERT_MAGIC
+    (λ _. NumberField OneByte Format CERT_FORMAT CERT_FORMAT (λ _. NumberField OneByte Range (version_number One) (version_number Two) (λ number. behind_version (version_of number))))
+    (drop 1 (entries cert))
 
 drop-zero : (bytes : List ℕ) → drop 0 bytes ≡ bytes
 drop-zero [] = refl
@@ -55,21 +69,20 @@ lines_push i (c ∷ certs) cert =
     ∙ sym (append_assoc (cert_line i c (verdict_of c)) (cert_lines (i + 1) certs) (cert_line (i + suc (length certs)) cert (verdict_of cert)))
 
 count_push : (certs : List Cert) (cert : Cert) → count_by says_yes (certs ++ cert ∷ []) ≡ count_by says_yes certs + cond (says_yes cert) 1 0
-count_push [] cert = omega arith
-count_push (c ∷ certs) cert = omega (arith, count_push certs cert)
+count_push certs cert = sum_by-append (λ c. cond (says_yes c) 1 0) certs (cert ∷ []) ∙ ap (λ (n : ℕ). count_by says_yes certs + n) (zero-add (cond (says_yes cert) 1 0))
 
 -- ---- the way through bytes
 
 -- So many certificates of the bytes are done, so many of them with the verdict Yes: this is their text, and the others stand from
 -- here on.
-pub record IsAt (bytes : List ℕ) (at certs yes : ℕ) (text : List ℕ) : Type 0 where
+pub record IsAt (bytes : List ℕ) (at certs good : ℕ) (text : List ℕ) : Type 0 where
   pub done : List Cert
   pub fuel : ℕ
   pub within : at ≤ length bytes
   pub few : certs ≤ at
-  pub fewer : yes ≤ certs
+  pub fewer : good ≤ certs
   pub count : certs ≡ length done
-  pub count_yes : yes ≡ count_by says_yes done
+  pub count_yes : good ≡ count_by says_yes done
   pub lines : text ≡ cert_lines 0 done
   pub enough : length bytes ≤ at + fuel
   pub left : certs_in bytes ≡ behind done (first_certs fuel (drop at bytes))
@@ -91,10 +104,10 @@ at_start bytes text none = record {
 }
 
 -- one more is done
-pub at_next : (bytes : List ℕ) (at certs yes : ℕ) (text : List ℕ) (r : ReadCert) (says : Bool) (longer : List ℕ) (at' certs' yes' : ℕ) → IsAt bytes at certs yes text → at < length bytes
+pub at_next : (bytes : List ℕ) (at certs good : ℕ) (text : List ℕ) (r : ReadCert) (says : Bool) (longer : List ℕ) (at' certs' good' : ℕ) → IsAt bytes at certs good text → at < length bytes
     → reading (drop at bytes) ≡ Ok r → BeginsWith r.cert r.used (drop at bytes) → WritesVerdict certs r.cert says text longer
-    → at' ≡ at + r.used → certs' ≡ certs + 1 → yes' ≡ yes + cond says 1 0 → IsAt bytes at' certs' yes' longer
-at_next bytes at certs yes text r says longer at' certs' yes' is inside read begins writes next more count =
+    → at' ≡ at + r.used → certs' ≡ certs + 1 → good' ≡ good + cond says 1 0 → IsAt bytes at' certs' good' longer
+at_next bytes at certs good text r says longer at' certs' good' is inside read begins writes next more count =
     let fuel = is.fuel in
     let here = drop at bytes in
     let long : length here ≡ length bytes - at = length-drop at bytes in
@@ -123,21 +136,21 @@ at_next bytes at certs yes text r says longer at' certs' yes' is inside read beg
     }
 
 -- all are done
-pub at_end : (bytes : List ℕ) (at certs yes : ℕ) (text : List ℕ) (is : IsAt bytes at certs yes text) → length bytes ≤ at → certs_in bytes ≡ record { certs = is.done; fault = None }
-at_end bytes at certs yes text is past =
+pub at_end : (bytes : List ℕ) (at certs good : ℕ) (text : List ℕ) (is : IsAt bytes at certs good text) → length bytes ≤ at → certs_in bytes ≡ record { certs = is.done; fault = None }
+at_end bytes at certs good text is past =
     is.left ∙ ap (behind is.done) (no_bytes is.fuel (drop at bytes) (omega (arith, length-drop at bytes)))
     ∙ ap (λ l. let found : CertsIn = record { certs = l; fault = None } in found) (append-nil is.done)
 
 -- the text is whole
-pub whole_text : (bytes : List ℕ) (at certs yes : ℕ) (text longer : List ℕ) → IsAt bytes at certs yes text → length bytes ≤ at → longer ≡ text ++ last_line certs yes
+pub whole_text : (bytes : List ℕ) (at certs good : ℕ) (text longer : List ℕ) → IsAt bytes at certs good text → length bytes ≤ at → longer ≡ text ++ last_line certs good
     → longer ≡ audit_text_of (certs_in bytes).certs
-whole_text bytes at certs yes text longer is past last =
-    last ∙ (λ i. is.lines i ++ last_line (is.count i) (is.count_yes i)) ∙ ap audit_text_of (ap (λ (found : CertsIn). found.certs) (sym (at_end bytes at certs yes text is past)))
+whole_text bytes at certs good text longer is past last =
+    last ∙ (λ i. is.lines i ++ last_line (is.count i) (is.count_yes i)) ∙ ap audit_text_of (ap (λ (found : CertsIn). found.certs) (sym (at_end bytes at certs good text is past)))
 
 -- what is here is no certificate
-fault_here : (bytes : List ℕ) (at certs yes : ℕ) (text : List ℕ) (fault : CertFault) (is : IsAt bytes at certs yes text) → at < length bytes → reading (drop at bytes) ≡ Err fault
+fault_here : (bytes : List ℕ) (at certs good : ℕ) (text : List ℕ) (fault : CertFault) (is : IsAt bytes at certs good text) → at < length bytes → reading (drop at bytes) ≡ Err fault
     → certs_in bytes ≡ record { certs = is.done; fault = Some fault }
-fault_here bytes at certs yes text fault is inside read =
+fault_here bytes at certs good text fault is inside read =
     let m : ℕ = is.fuel - 1 in
     let some : is.fuel ≡ suc m = omega (arith, is.enough) in
     let here = drop at bytes in
@@ -145,17 +158,19 @@ fault_here bytes at certs yes text fault is inside read =
     ap (λ n. first_certs n here) some ∙ first_step m here (omega (arith, length-drop at bytes)) ∙ ap (λ o. put_first o (λ n. first_certs m (drop n here))) read in
     is.left ∙ ap (behind is.done) step ∙ ap (λ l. let found : CertsIn = record { certs = l; fault = Some fault } in found) (append-nil is.done)
 
-pub at_fault : (bytes : List ℕ) (at certs yes : ℕ) (text : List ℕ) (status : Status) → IsAt bytes at certs yes text → at < length bytes → CertEnds certs (reading (drop at bytes)) status
+pub at_fault : (bytes : List ℕ) (at certs good : ℕ) (text : List ℕ) (status : Status) → IsAt bytes at certs good text → at < length bytes → CertEnds certs (reading (drop at bytes)) status
     → AuditEnds (certs_in bytes) status
-at_fault bytes at certs yes text (BadCert cert kind place) is inside ends =
-    let found = fault_here bytes at certs yes text (record { kind = kind; at = place }) is inside ends.1 in
+at_fault bytes at certs good text (BadCert cert kind place) is inside ends =
+    let found = fault_here bytes at certs good text (record { kind = kind; at = place }) is inside ends.1 in
     (ends.0 ∙ is.count ∙ ap (λ (f : CertsIn). length f.certs) (sym found), ap (λ (f : CertsIn). f.fault) found)
-at_fault bytes at certs yes text NoMemory is inside ends = tt
-at_fault bytes at certs yes text Done is inside ends = absurd ends
-at_fault bytes at certs yes text Usage is inside ends = absurd ends
-at_fault bytes at certs yes text ReadFault is inside ends = absurd ends
-at_fault bytes at certs yes text WriteFault is inside ends = absurd ends
-at_fault bytes at certs yes text TooMany is inside ends = absurd ends
-at_fault bytes at certs yes text (BadTable row column) is inside ends = absurd ends
-at_fault bytes at certs yes text (ShortCoins have) is inside ends = absurd ends
-at_fault bytes at certs yes text (BadVector number got wanted) is inside ends = absurd ends
+at_fault bytes at certs good text NoMemory is inside ends = tt
+at_fault bytes at certs good text Done is inside ends = absurd ends
+at_fault bytes at certs good text Usage is inside ends = absurd ends
+at_fault bytes at certs good text ReadFault is inside ends = absurd ends
+at_fault bytes at certs good text WriteFault is inside ends = absurd ends
+at_fault bytes at certs good text TooMany is inside ends = absurd ends
+at_fault bytes at certs good text (BadTable row column) is inside ends = absurd ends
+at_fault bytes at certs good text (ShortCoins have) is inside ends = absurd ends
+at_fault bytes at certs good text (BadVector number got wanted) is inside ends = absurd ends
+at_fault bytes at certs good text (BadBook book kind place) is inside ends = absurd ends
+at_fault bytes at certs good text (BookEpoch book have) is inside ends = absurd ends

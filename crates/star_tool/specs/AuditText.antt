@@ -42,10 +42,12 @@ certs_in bytes = first_certs (length bytes) bytes
 abbrev pub step_of : Cert → List ℕ → Step
 step_of cert value = record { value = value; k = cert.head.k; version = cert.head.version }
 
+-- its level, how many points it has, and how many of them agree
+abbrev pub counts_text : Cert → ℕ → List ℕ
+counts_text cert agree = codes " level=" ++ decimal cert.level ++ codes " points=" ++ decimal (length cert.points) ++ codes " agree=" ++ decimal agree ++ codes "\n"
+
 abbrev pub yes_line : ℕ → Cert → List ℕ → ℕ → List ℕ
-yes_line i cert value agree =
-    decimal i ++ codes " yes " ++ step_text (step_of cert value) ++ codes " level=" ++ decimal cert.level ++ codes " points="
-    ++ decimal (length cert.points) ++ codes " agree=" ++ decimal agree ++ codes "\n"
+yes_line i cert value agree = decimal i ++ codes " yes " ++ step_text (step_of cert value) ++ counts_text cert agree
 
 abbrev pub no_line : ℕ → Verdict → List ℕ
 no_line i verdict = decimal i ++ codes " no " ++ verdict_name verdict ++ codes "\n"
@@ -70,8 +72,8 @@ abbrev pub cert_lines : ℕ → List Cert → List ℕ
 cert_lines i [] = []
 cert_lines i (cert ∷ certs) = cert_line i cert (verdict_of cert) ++ cert_lines (i + 1) certs
 
-abbrev pub last_line : (certs yes : ℕ) → List ℕ
-last_line certs yes = codes "certs=" ++ decimal certs ++ codes " yes=" ++ decimal yes ++ codes "\n"
+abbrev pub last_line : (certs good : ℕ) → List ℕ
+last_line certs good = codes "certs=" ++ decimal certs ++ codes " yes=" ++ decimal good ++ codes "\n"
 
 -- the text for these certificates
 abbrev pub audit_text_of : List Cert → List ℕ
@@ -79,7 +81,7 @@ audit_text_of certs = cert_lines 0 certs ++ last_line (length certs) (count_by (
 
 -- the line of certificate i was put behind a text, and the answer says whether its verdict is Yes
 abbrev pub WritesVerdict : ℕ → Cert → Bool → List ℕ → List ℕ → Type 0
-WritesVerdict i cert yes old new = (yes ≡ is_yes (verdict_of cert)) × (new ≡ old ++ cert_line i cert (verdict_of cert))
+WritesVerdict i cert good old new = (good ≡ is_yes (verdict_of cert)) × (new ≡ old ++ cert_line i cert (verdict_of cert))
 
 -- ---- why there is none
 

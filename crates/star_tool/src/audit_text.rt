@@ -3,7 +3,8 @@ ghost use Rattle.std.specs.Prelude.{◌≡◌, ◌<◌, ◌≤◌, ◌^◌, ◌+
 ghost use Rattle.cert_audit.specs.Audit.{verdict_of};
 ghost use Rattle.cert_audit.specs.Certificate.{IsCert, BeginsWith};
 ghost use Rattle.cert_audit.specs.Reading.{reading};
-ghost use Rattle.star_tool.specs.AuditText.{AuditEnds, CertEnds, WritesVerdict, cert_line, last_line, yes_line, certs_in, audit_text_of};
+ghost use Rattle.reveal_report.specs.Paths.{step_text};
+ghost use Rattle.star_tool.specs.AuditText.{AuditEnds, CertEnds, WritesVerdict, cert_line, last_line, yes_line, step_of, counts_text, certs_in, audit_text_of};
 ghost use Rattle.star_tool.specs.declared.verbs.audit.TheConstants.{MAX_CERTS_BYTES};
 
 use crate::status::Status;
@@ -59,7 +60,7 @@ fn next_cert(alloc: Global, bytes: &[u8], certs: u32) -> Result<ReadCert, Status
 // Writes the line of a certificate, and says whether its verdict is Yes.
 fn push_verdict(text: &mut String, number: u32, cert: &Cert) -> Result<bool, NoMemory>
     requires { IsCert cert.now }
-    ensures { IfOk result (λ yes. WritesVerdict number cert.now yes (string_bytes text.old) (string_bytes text.new)) }
+    ensures { IfOk result (λ says. WritesVerdict number cert.now says (string_bytes text.old) (string_bytes text.new)) }
 {
     let verdict = audit(cert);
     match &verdict {
@@ -84,13 +85,29 @@ fn push_yes(
 ) -> Result<(), AllocError>
     ensures { OnOk result (string_bytes text.new ≡ string_bytes text.old ++ yes_line number cert.now value.now agree) }
 {
+    write!(text, "{number} yes ")?;
+    push_opened(text, cert, value)?;
+    push_counts(text, cert, agree)?;
+    Ok(())
+}
+
+// Writes a value with the threshold and the version of its group.
+fn push_opened(text: &mut String, cert: &Cert, value: &Value) -> Result<(), AllocError>
+    ensures { OnOk result (string_bytes text.new ≡ string_bytes text.old ++ step_text (step_of cert.now value.now)) }
+{
     let step = Step {
         value: value.copy(),
         k: cert.head.k,
         version: cert.head.version,
     };
-    write!(text, "{number} yes ")?;
     push_step(text, &step)?;
+    Ok(())
+}
+
+// Writes the level of a certificate, how many points it has, and how many of them agree.
+fn push_counts(text: &mut String, cert: &Cert, agree: u32) -> Result<(), AllocError>
+    ensures { OnOk result (string_bytes text.new ≡ string_bytes text.old ++ counts_text cert.now agree) }
+{
     let level = cert.level;
     let points = cert.points.len();
     write!(text, " level={level} points={points} agree={agree}\n")

@@ -1,10 +1,42 @@
-use Rattle.std.proofs.Common.{◌≡◌, ◌∙◌, ◌+◌, ap, arith, cond}
-use Rattle.star_tool.proofs.Certificates.{at_start, at_next, at_end, whole_text, at_fault}
+use Rattle.std.proofs.Common.{◌≡◌, ◌∙◌, ◌+◌, ◌++◌, ℕ, List, Bool, ap, refl, subst, arith, cond}
+use Rattle.std.specs.Prelude.{string_bytes, Vec}
+use Rattle.std.specs.declared.alloc.Global.{Global}
+use Rattle.cert_audit.specs.declared.cert.Cert.{Cert}
+use Rattle.star_tool.specs.AuditText.{CertsIn, WritesVerdict}
+use Rattle.star_tool.proofs.Certificates.{some_bytes, at_start, at_next, at_end, whole_text, at_fault}
 use Rattle.star_tool.proofs.Lines.{bool_byte-cond}
+use Rattle.star_tool.proofs.Reasons.{of_error}
 use Rattle.star_tool.proofs.audit_text.audit_text.Goals as goal
+
+same_cert : (i : ℕ) (cert other : Cert) (says : Bool) (old new : List ℕ) → cert ≡ other → WritesVerdict i cert says old new → WritesVerdict i other says old new
+same_cert i cert other says old new is writes = subst (λ (k : Cert). WritesVerdict i k says old new) is writes
 
 pub loop-at-init : goal.loop-at-init
 loop-at-init c = at_start c.args.bytes.now _ c.new-text.ensures.bytes
 
 pub loop-at-preserved : goal.loop-at-preserved
-loop-at-preserved c = ?
+loop-at-preserved c =
+    let r = c.in_ok-cert.field-0 in
+    let says = c.in_ok-says_yes.says_yes in
+    at_next c.args.bytes.now c.loop-at.at c.loop-at.certs c.loop-at.yes (string_bytes c.loop-at.text) r says (string_bytes c.push_verdict.new.text) _ _ _
+    c.loop-at.invariant c.loop-at-test.true c.in_ok-cert.ensures.read c.in_ok-cert.ensures.found
+    (same_cert c.loop-at.certs c.in_ok-cert.cert r.cert says (string_bytes c.loop-at.text) (string_bytes c.push_verdict.new.text) (cc) c.in_ok-says_yes.ensures)
+    refl refl (ap (λ (n : ℕ). c.loop-at.yes + n) (c.from-yes.ensures ∙ bool_byte-cond says))
+
+pub loop-at-smaller : goal.loop-at-smaller
+loop-at-smaller c = omega (arith, c.loop-at-test.true, c.in_ok-cert.ensures.found.long, some_bytes c.in_ok-cert.field-0.cert)
+
+pub returns-in_err-cert-clause-bad : goal.returns-in_err-cert-clause-bad
+returns-in_err-cert-clause-bad c =
+    of_error _ _ _ c.from_residual.ensures.1
+    (at_fault c.args.bytes.now c.loop-at.at c.loop-at.certs c.loop-at.yes (string_bytes c.loop-at.text) c.in_err-cert.field-0.0 c.loop-at.invariant c.loop-at-test.true c.in_err-cert.ensures.bad)
+
+pub returns-clause-good : goal.returns-clause-good
+returns-clause-good c =
+    ap (λ (found : CertsIn). found.fault)
+    (at_end c.args.bytes.now c.loop-at.at c.loop-at.certs c.loop-at.yes (string_bytes c.loop-at.text) c.loop-at.invariant c.loop-at-test.false)
+
+pub returns-clause-text : goal.returns-clause-text
+returns-clause-text c =
+    whole_text c.args.bytes.now c.loop-at.at c.loop-at.certs c.loop-at.yes (string_bytes c.loop-at.text) _ c.loop-at.invariant c.loop-at-test.false
+    (ap (λ (v : Vec ℕ Global). v.items) c.into_bytes.ensures.value ∙ c.in_ok-push_last_line.ensures)
