@@ -1,7 +1,7 @@
 -- Certificates one after the other.
-use Rattle.std.proofs.Common.{◌≡◌, ◌∙◌, ◌<◌, ◌≤◌, ◌+◌, ◌-◌, ℕ, zero, suc, Bool, true, false, cond, List, [], ◌∷◌, ◌++◌, length, drop, Option, Some, None, Result, Ok, Err, refl, sym, ap, subst, arith, append_assoc, append-nil, length-append, zero-add}
+use Rattle.std.proofs.Common.{◌≡◌, ◌∙◌, ◌<◌, ◌≤◌, ◌+◌, ◌-◌, ℕ, zero, suc, Bool, true, false, cond, List, [], ◌∷◌, ◌++◌, length, take, drop, Option, Some, None, Result, Ok, Err, refl, sym, ap, subst, arith, append_assoc, append-nil, length-append, zero-add}
 use Rattle.std.specs.Prelude.{count_by}
-use Rattle.std.proofs.lemmas.List.{length-drop, drop-drop}
+use Rattle.std.proofs.lemmas.List.{length-drop, drop-drop, take_all}
 use Rattle.std.proofs.lemmas.List.Sums.{sum_by-append}
 use Rattle.std.specs.Int.{to_be_bytes}
 use Rattle.report_frame.specs.declared.version.Version.TheVariants.{One, Two}
@@ -49,6 +49,10 @@ some_bytes cert =
 drop-zero : (bytes : List ℕ) → drop 0 bytes ≡ bytes
 drop-zero [] = refl
 drop-zero (byte ∷ bytes) = refl
+
+-- a slice from here on has all that is left
+pub all_left : (at : ℕ) (bytes : List ℕ) → take (length bytes - at) (drop at bytes) ≡ drop at bytes
+all_left at bytes = take_all (length bytes - at) (drop at bytes) (omega (arith, length-drop at bytes))
 
 -- ---- one step
 

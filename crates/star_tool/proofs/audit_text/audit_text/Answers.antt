@@ -1,9 +1,11 @@
-use Rattle.std.proofs.Common.{◌≡◌, ◌∙◌, ◌+◌, ◌++◌, ℕ, List, Bool, ap, refl, subst, arith, cond}
+use Rattle.std.proofs.Common.{◌≡◌, ◌∙◌, ◌+◌, ◌++◌, ℕ, List, Bool, Ok, ap, refl, subst, arith, cond}
 use Rattle.std.specs.Prelude.{string_bytes, Vec}
 use Rattle.std.specs.declared.alloc.Global.{Global}
 use Rattle.cert_audit.specs.declared.cert.Cert.{Cert}
-use Rattle.star_tool.specs.AuditText.{CertsIn, WritesVerdict}
-use Rattle.star_tool.proofs.Certificates.{some_bytes, at_start, at_next, at_end, whole_text, at_fault}
+use Rattle.cert_audit.specs.Certificate.{BeginsWith}
+use Rattle.cert_audit.specs.Reading.{reading}
+use Rattle.star_tool.specs.AuditText.{CertsIn, CertEnds, WritesVerdict}
+use Rattle.star_tool.proofs.Certificates.{some_bytes, all_left, at_start, at_next, at_end, whole_text, at_fault}
 use Rattle.star_tool.proofs.Lines.{bool_byte-cond}
 use Rattle.star_tool.proofs.Reasons.{of_error}
 use Rattle.star_tool.proofs.audit_text.audit_text.Goals as goal
@@ -18,8 +20,10 @@ pub loop-at-preserved : goal.loop-at-preserved
 loop-at-preserved c =
     let r = c.in_ok-cert.field-0 in
     let says = c.in_ok-says_yes.says_yes in
+    let left = all_left c.loop-at.at c.args.bytes.now in
     at_next c.args.bytes.now c.loop-at.at c.loop-at.certs c.loop-at.yes (string_bytes c.loop-at.text) r says (string_bytes c.push_verdict.new.text) _ _ _
-    c.loop-at.invariant c.loop-at-test.true c.in_ok-cert.ensures.read c.in_ok-cert.ensures.found
+    c.loop-at.invariant c.loop-at-test.true (subst (λ (b : List ℕ). reading b ≡ Ok r) left c.in_ok-cert.ensures.read)
+    (subst (λ (b : List ℕ). BeginsWith r.cert r.used b) left c.in_ok-cert.ensures.found)
     (same_cert c.loop-at.certs c.in_ok-cert.cert r.cert says (string_bytes c.loop-at.text) (string_bytes c.push_verdict.new.text) (cc) c.in_ok-says_yes.ensures)
     refl refl (ap (λ (n : ℕ). c.loop-at.yes + n) (c.from-yes.ensures ∙ bool_byte-cond says))
 
@@ -29,7 +33,8 @@ loop-at-smaller c = omega (arith, c.loop-at-test.true, c.in_ok-cert.ensures.foun
 pub returns-in_err-cert-clause-bad : goal.returns-in_err-cert-clause-bad
 returns-in_err-cert-clause-bad c =
     of_error _ _ _ c.from_residual.ensures.1
-    (at_fault c.args.bytes.now c.loop-at.at c.loop-at.certs c.loop-at.yes (string_bytes c.loop-at.text) c.in_err-cert.field-0.0 c.loop-at.invariant c.loop-at-test.true c.in_err-cert.ensures.bad)
+    (at_fault c.args.bytes.now c.loop-at.at c.loop-at.certs c.loop-at.yes (string_bytes c.loop-at.text) c.in_err-cert.field-0.0 c.loop-at.invariant c.loop-at-test.true
+    (subst (λ (b : List ℕ). CertEnds c.loop-at.certs (reading b) c.in_err-cert.field-0.0) (all_left c.loop-at.at c.args.bytes.now) c.in_err-cert.ensures.bad))
 
 pub returns-clause-good : goal.returns-clause-good
 returns-clause-good c =

@@ -16,7 +16,7 @@ pub returns-in_err-text-clause-reason : goal.returns-in_err-text-clause-reason
 returns-in_err-text-clause-reason g c =
     of_error _ _ _ c.from_residual-in_err-text.ensures.1
     (no_text (seen g.S.Source.left g.S.Source.faults c.args.input.now c.read_bytes.new.input) unseen c.in_ok-bytes.bytes.items c.in_err-text.field-0.0
-    c.in_ok-bytes.ensures.bytes c.in_ok-bytes.ensures.few (subst (λ b. AuditEnds (certs_in b) c.in_err-text.field-0.0) c.deref.ensures.value c.in_err-text.ensures))
+    c.in_ok-bytes.ensures.bytes c.in_ok-bytes.ensures.few (subst (λ b. AuditEnds (certs_in b) c.in_err-text.field-0.0) c.deref.ensures.value c.in_err-text.ensures.bad))
 
 pub returns-clause-output : goal.returns-clause-output
 returns-clause-output g c = λ coins.
