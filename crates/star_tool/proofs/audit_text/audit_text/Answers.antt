@@ -1,17 +1,13 @@
-use Rattle.std.proofs.Common.{◌≡◌, ◌∙◌, ◌+◌, ◌++◌, ℕ, List, Bool, Ok, ap, refl, subst, arith, cond}
+use Rattle.std.proofs.Common.{◌≡◌, ◌∙◌, ◌+◌, ◌++◌, ℕ, List, Ok, ap, refl, subst, arith}
 use Rattle.std.specs.Prelude.{string_bytes, Vec}
 use Rattle.std.specs.declared.alloc.Global.{Global}
-use Rattle.cert_audit.specs.declared.cert.Cert.{Cert}
 use Rattle.cert_audit.specs.Certificate.{BeginsWith}
 use Rattle.cert_audit.specs.Reading.{reading}
-use Rattle.star_tool.specs.AuditText.{CertsIn, CertEnds, WritesVerdict}
+use Rattle.star_tool.specs.AuditText.{CertsIn, CertEnds}
 use Rattle.star_tool.proofs.Certificates.{some_bytes, all_left, at_start, at_next, at_end, whole_text, at_fault}
 use Rattle.star_tool.proofs.Lines.{bool_byte-cond}
 use Rattle.star_tool.proofs.Reasons.{of_error}
 use Rattle.star_tool.proofs.audit_text.audit_text.Goals as goal
-
-same_cert : (i : ℕ) (cert other : Cert) (says : Bool) (old new : List ℕ) → cert ≡ other → WritesVerdict i cert says old new → WritesVerdict i other says old new
-same_cert i cert other says old new is writes = subst (λ (k : Cert). WritesVerdict i k says old new) is writes
 
 pub loop-at-init : goal.loop-at-init
 loop-at-init c = at_start c.args.bytes.now _ c.new-text.ensures.bytes
@@ -23,8 +19,7 @@ loop-at-preserved c =
     let left = all_left c.loop-at.at c.args.bytes.now in
     at_next c.args.bytes.now c.loop-at.at c.loop-at.certs c.loop-at.yes (string_bytes c.loop-at.text) r says (string_bytes c.push_verdict.new.text) _ _ _
     c.loop-at.invariant c.loop-at-test.true (subst (λ (b : List ℕ). reading b ≡ Ok r) left c.in_ok-cert.ensures.read)
-    (subst (λ (b : List ℕ). BeginsWith r.cert r.used b) left c.in_ok-cert.ensures.found)
-    (same_cert c.loop-at.certs c.in_ok-cert.cert r.cert says (string_bytes c.loop-at.text) (string_bytes c.push_verdict.new.text) (cc) c.in_ok-says_yes.ensures)
+    (subst (λ (b : List ℕ). BeginsWith r.cert r.used b) left c.in_ok-cert.ensures.found) c.in_ok-says_yes.ensures
     refl refl (ap (λ (n : ℕ). c.loop-at.yes + n) (c.from-yes.ensures ∙ bool_byte-cond says))
 
 pub loop-at-smaller : goal.loop-at-smaller
