@@ -1,5 +1,5 @@
 -- The command `audit`.
-use Rattle.std.proofs.Common.{◌≡◌, ◌∙◌, ◌<◌, ◌≤◌, ◌+◌, ℕ, List, [], length, drop, Option, Some, None, refl, sym, ap, subst, arith}
+use Rattle.std.proofs.Common.{◌≡◌, ◌∙◌, ◌<◌, ◌≤◌, ◌+◌, ℕ, List, [], length, Some, None, refl, sym, ap, subst, arith}
 use Rattle.std.specs.Prelude.{option_map}
 use Rattle.std.proofs.lemmas.Bool.{lt-ltb, le-ltb}
 use Rattle.std.proofs.lemmas.List.{length-drop, nil_from_length}
@@ -8,7 +8,7 @@ use Rattle.command_words.specs.declared.command.Command.TheVariants.{Audit}
 use Rattle.star_tool.specs.declared.status.Status.{Status}
 use Rattle.star_tool.specs.declared.status.Status.TheVariants.{Done, Usage, ReadFault, WriteFault, TooMany, NoMemory, BadTable, ShortCoins, BadVector, BadBook, BookEpoch, BadCert}
 use Rattle.star_tool.specs.declared.verbs.audit.TheConstants.{MAX_CERTS_BYTES}
-use Rattle.star_tool.specs.AuditText.{CertsIn, AuditEnds, certs_in, audit_text_of}
+use Rattle.star_tool.specs.AuditText.{AuditEnds, certs_in, audit_text_of}
 use Rattle.star_tool.specs.Run.{IsRefused, IsOutput, Reason}
 use Rattle.star_tool.specs.Seen.{Seen}
 use Rattle.star_tool.specs.Verbs.Audit.{audit_refusal, audit_rest}

@@ -1,10 +1,9 @@
 // The text of `audit`.
-ghost use Rattle.std.specs.Prelude.{◌≡◌, ◌<◌, ◌≤◌, ◌^◌, ◌++◌, length, drop, None, IfOk, IfErr, OnOk, string_bytes};
-ghost use Rattle.cert_audit.specs.Audit.{verdict_of};
+ghost use Rattle.std.specs.Prelude.{◌≡◌, ◌≤◌, ◌++◌, length, None, IfOk, IfErr, OnOk, string_bytes};
 ghost use Rattle.cert_audit.specs.Certificate.{IsCert, BeginsWith};
 ghost use Rattle.cert_audit.specs.Reading.{reading};
 ghost use Rattle.reveal_report.specs.Paths.{step_text};
-ghost use Rattle.star_tool.specs.AuditText.{AuditEnds, CertEnds, WritesVerdict, cert_line, last_line, yes_line, step_of, counts_text, certs_in, audit_text_of};
+ghost use Rattle.star_tool.specs.AuditText.{AuditEnds, CertEnds, WritesVerdict, last_line, yes_line, step_of, counts_text, certs_in, audit_text_of};
 ghost use Rattle.star_tool.specs.declared.verbs.audit.TheConstants.{MAX_CERTS_BYTES};
 
 use crate::status::Status;

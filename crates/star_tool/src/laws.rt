@@ -156,7 +156,7 @@ pub fn certify_tells()
 
 /// `audit` refuses exactly too many bytes, and else those that go on with something else behind some
 /// whole certificates.
-#[tactic(auto, using(crate::proofs::AuditLaws::too_many_means, crate::proofs::AuditLaws::bad_means, crate::proofs::AuditLaws::none_means))]
+#[tactic(auto, using(crate::proofs::AuditLaws::too_many_means, crate::proofs::AuditLaws::none_means))]
 pub fn audit_refuses()
     ensures too_many { (bytes : List ℕ) →
         (refusal_of Audit bytes ≡ Some Status.TooMany) ↔ (MAX_CERTS_BYTES < length bytes) }

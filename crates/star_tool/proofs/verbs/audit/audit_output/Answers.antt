@@ -1,4 +1,4 @@
-use Rattle.std.proofs.Common.{◌≡◌, ◌∙◌, ap, refl, sym, subst, Err, None}
+use Rattle.std.proofs.Common.{◌∙◌, ap, refl, sym, subst, Err}
 use Rattle.command_words.specs.declared.command.Command.TheVariants.{Audit}
 use Rattle.star_tool.specs.AuditText.{AuditEnds, audit_text_of, certs_in}
 use Rattle.star_tool.specs.Seen.{seen, unseen}

@@ -1,4 +1,4 @@
-use Rattle.std.proofs.Common.{◌≡◌, ◌∙◌, ◌++◌, take, ap, sym, subst}
+use Rattle.std.proofs.Common.{◌∙◌, ◌++◌, take, ap, sym, subst}
 use Rattle.std.specs.List.{flat_map}
 use Rattle.cert_audit.specs.Certificate.{IsCert, cert_spelling}
 use Rattle.layer_walk.proofs.MadeLists.{flat_map-push, take-step}
