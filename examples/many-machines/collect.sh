@@ -34,7 +34,7 @@ each() {
         parallel --will-cite --halt now,fail=1 --jobs "${JOBS:-4}" ${MACHINES:+--sshloginfile "$MACHINES"}
     else
         rm -f "$folder/.failed"
-        xargs -P "${JOBS:-4}" -d '\n' -I{} bash -c 'eval "$2" || { echo $? >"$1"; exit 255; }' _ "$folder/.failed" {} 2>/dev/null
+        xargs -P "${JOBS:-4}" -d '\n' -I{} bash -c 'eval "$2" 2>&3 || { echo $? >"$1"; exit 255; }' _ "$folder/.failed" {} 3>&2 2>/dev/null
         [ ! -e "$folder/.failed" ] || return "$(cat "$folder/.failed")"
     fi
 }

@@ -4,11 +4,12 @@ use Rattle.std.specs.Prelude.{IfErr, IsErrAnd}
 use Rattle.star_io.specs.Faults.{Rose}
 use Rattle.command_words.specs.declared.command.Command.{Command}
 use Rattle.star_tool.specs.declared.status.Status.{Status}
-use Rattle.star_tool.specs.declared.status.Status.TheVariants.{TooMany}
+use Rattle.command_words.specs.declared.command.Command.TheVariants.{Audit}
+use Rattle.star_tool.specs.declared.status.Status.TheVariants.{Done, Usage, ReadFault, WriteFault, TooMany, NoMemory, BadTable, ShortCoins, BadVector, BadBook, BookEpoch, BadCert}
 use Rattle.star_io.specs.declared.input_error.InputError.{InputError}
 use Rattle.star_io.specs.declared.input_error.InputError.TheVariants as input_error
 use Rattle.star_tool.specs.Commands.{reads}
-use Rattle.star_tool.specs.Seen.{Seen}
+use Rattle.star_tool.specs.Seen.{Seen, unseen}
 use Rattle.star_tool.specs.Run.{TrueAnd, IsRefused, Reason, MayFollowCoins, ending}
 use Rattle.star_tool.specs.Status.{input_status}
 
@@ -42,3 +43,18 @@ pub may_follow : {T : Type 0} (coins : Seen) (result : Result T Status) (status 
     → MayFollowCoins coins (ending result)
 may_follow coins (Ok x) status is may = absurd is
 may_follow coins (Err error) status is may = subst (λ (s : Status). MayFollowCoins coins s) (sym is) may
+
+-- why `audit` made no output, which draws no coins, holds whatever they are
+pub audit_reason : (input coins : Seen) (status : Status) → Reason Audit input unseen status → Reason Audit input coins status
+audit_reason input coins Done reason = reason
+audit_reason input coins Usage reason = reason
+audit_reason input coins ReadFault reason = reason
+audit_reason input coins WriteFault reason = reason
+audit_reason input coins TooMany reason = reason
+audit_reason input coins NoMemory reason = reason
+audit_reason input coins (BadTable row column) reason = reason
+audit_reason input coins (ShortCoins have) reason = reason
+audit_reason input coins (BadVector number got wanted) reason = reason
+audit_reason input coins (BadBook book kind at) reason = reason
+audit_reason input coins (BookEpoch book have) reason = reason
+audit_reason input coins (BadCert cert kind at) reason = reason
