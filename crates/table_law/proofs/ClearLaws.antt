@@ -1,7 +1,6 @@
 -- A layer is clear exactly where its points and its heads differ.
-use Rattle.std.proofs.Common.{◌≡◌, ◌≢◌, ℕ, suc, ◌+◌, ◌<◌, true, List, [], inl, inr, refl, sym, ap, ◌∙◌, subst, map, length, get_or, slice_index, arith}
+use Rattle.std.proofs.Common.{◌≡◌, ◌≢◌, ℕ, suc, ◌+◌, ◌<◌, true, List, [], inl, inr, sym, ap, ◌∙◌, length, get_or, slice_index, arith}
 use Rattle.std.proofs.lemmas.Bool.{cases_lt}
-use Rattle.report_frame.specs.declared.head.Head.{Head}
 use Rattle.report_frame.specs.declared.version.Version.TheVariants.{One}
 use Rattle.report_frame.specs.View.{head_of}
 use Rattle.adss_commit.specs.Derivation.{context_head}
@@ -13,7 +12,7 @@ use Rattle.table_law.specs.Layers.{layer_context, layer_body, layer_report, row_
 use Rattle.table_law.specs.Fronts.{first_of, firsts_of}
 use Rattle.table_law.specs.Clear.{IsClearAt}
 use Rattle.table_law.specs.Marks.{ArePoints, PointsDiffer, row_head, HeadsDiffer}
-use Rattle.table_law.proofs.FrontLaws.{front_turned, front_joins, front_before, front_last, front_more, context_same}
+use Rattle.table_law.proofs.FrontLaws.{front_before, front_last, front_more, context_same}
 use Rattle.table_law.proofs.RowPlaces.{first_below, first_like, same_firsts, firsts_same}
 use Rattle.table_law.proofs.Growing.{first_at, firsts_long}
 

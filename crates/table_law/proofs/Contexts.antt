@@ -1,18 +1,18 @@
 -- What is derived from the contexts of a layer, and the checks of the layer before.
-use Rattle.std.proofs.Common.{◌≡◌, ◌≢◌, ℕ, suc, ◌+◌, ◌<◌, ◌≤◌, true, List, [], ◌∷◌, inl, inr, refl, sym, ap, ◌∙◌, subst, map, length, take, get_or, slice_index, replicate, arith}
+use Rattle.std.proofs.Common.{◌≡◌, ℕ, suc, ◌+◌, ◌<◌, ◌≤◌, List, [], ◌∷◌, inl, inr, refl, sym, ap, ◌∙◌, map, length, get_or, replicate, arith}
 use Rattle.std.proofs.lemmas.Bool.{cases_lt, false≢true}
-use Rattle.std.proofs.lemmas.List.{get_or-map, length-map, map_more}
+use Rattle.std.proofs.lemmas.List.{get_or-map, length-map}
 use Rattle.report_frame.specs.declared.limits.TheConstants.{CHECK_BYTES}
 use Rattle.adss_commit.specs.declared.context.Derived.{Derived}
 use Rattle.adss_commit.specs.Derivation.{derived}
 use Rattle.star_lists.proofs.Elements.{In, in_at}
 use Rattle.table_law.specs.Prefixes.{Values, same_front}
 use Rattle.table_law.specs.Layers.{check_before, layer_context}
-use Rattle.table_law.specs.Fronts.{first_of, firsts_of}
+use Rattle.table_law.specs.Fronts.{first_of}
 use Rattle.table_law.specs.Marks.{checks_before, derived_at}
 use Rattle.table_law.proofs.FrontLaws.{front_itself, context_same}
 use Rattle.table_law.proofs.RowPlaces.{first_like, first_place_of, first_is}
-use Rattle.table_law.proofs.Growing.{first_at, mapped_alike}
+use Rattle.table_law.proofs.Growing.{mapped_alike}
 
 pub check_at : (e : ℕ) (ks : List ℕ) (l : ℕ) (table : List Values) (checks : List (List ℕ)) → checks ≡ checks_before e ks l table → (j : ℕ) (d : List ℕ) → j < length table →
     get_or checks j d ≡ check_before e ks l (get_or table j [])

@@ -2,7 +2,7 @@
 use Rattle.std.proofs.Common.{◌≡◌, ℕ, suc, ◌+◌, ◌*◌, ◌^◌, ◌<◌, ◌≤◌, List, [], ◌∷◌, length, arith, All}
 use Rattle.report_frame.specs.declared.limits.TheConstants.{FIXED_BYTES, MAX_LEVEL_ONE, MIN_THRESHOLD, MAX_VALUE}
 use Rattle.report_frame.specs.declared.version.Version.TheVariants.{One}
-use Rattle.report_frame.specs.Versions.{max_level, max_threshold, max_frame}
+use Rattle.report_frame.specs.Versions.{max_threshold, max_frame}
 use Rattle.report_frame.specs.Frame.{Fields, IsFrame}
 use Rattle.adss_commit.specs.declared.context.Context.{Context}
 use Rattle.adss_commit.specs.Derivation.{context_check}

@@ -1,5 +1,5 @@
 -- What a client's report of a layer holds.
-use Rattle.std.proofs.Common.{◌≡◌, ℕ, suc, ◌+◌, ◌*◌, ◌^◌, ◌<◌, ◌≤◌, true, List, [], ◌∷◌, Ok, Err, refl, sym, ap, ap₂, ◌∙◌, length, drop, slice_index, arith, length-drop, All, eqb, eq-eqb}
+use Rattle.std.proofs.Common.{◌≡◌, ℕ, suc, ◌+◌, ◌^◌, ◌<◌, ◌≤◌, true, List, [], ◌∷◌, Ok, Err, refl, sym, ap, ap₂, ◌∙◌, length, drop, slice_index, arith, length-drop, eqb, eq-eqb}
 use Rattle.std.specs.Prelude.{if◌then◌else◌, not}
 use Rattle.std.specs.Cmp.Lexicographic.{bytes_decides}
 use Rattle.std.proofs.Math.Seq.{drop-cons}
@@ -22,7 +22,7 @@ use Rattle.layer_walk.specs.Members.{is_sealed, plain_body as plain_of, frame_fo
 use Rattle.layer_walk.specs.Members.Next.{Refused, Last, Inner}
 use Rattle.table_law.specs.Prefixes.{value_at}
 use Rattle.table_law.specs.Layers.{check_before, layer_context, layer_body, layer_report}
-use Rattle.table_law.specs.Reveals.{IsValue, IsRowOf}
+use Rattle.table_law.specs.Reveals.{IsRowOf}
 use Rattle.table_law.proofs.Frames.{IsGoodContext, IsGoodLayer, layer_good, FitLevels, plain_good}
 
 -- a report of a layer holds its plain body

@@ -1,14 +1,9 @@
 -- Points and heads of rows, as the keys of a map.
-use Rattle.std.proofs.Common.{◌≡◌, ◌≢◌, ℕ, ◌+◌, ◌<◌, Bool, true, ◌&&◌, List, [], inl, inr, Option, Some, None, refl, sym, ap, ◌∙◌, subst, length, get_or, slice_index, arith, eqb, eqb-true, eq-eqb}
-use Rattle.std.specs.Prelude.{if◌then◌else◌, unwrap_or}
-use Rattle.std.specs.Option.{option_or}
+use Rattle.std.proofs.Common.{◌≡◌, ℕ, Bool, true, ◌&&◌, List, [], refl, sym, ap, ◌∙◌, subst, get_or, slice_index, eqb, eqb-true, eq-eqb}
 use Rattle.std.specs.Str.{bytes_eq}
 use Rattle.std.specs.Ordering.{is_eq}
-use Rattle.std.specs.BTreeMap.{BTreeMap, get}
 use Rattle.std.specs.Cmp.{first_so, second_so}
 use Rattle.std.specs.declared.cmp.Ordering.{Ordering}
-use Rattle.std.proofs.lemmas.Bool.{cases_lt}
-use Rattle.report_frame.specs.declared.head.Head.{Head}
 use Rattle.report_frame.specs.declared.version.Version.{Version}
 use Rattle.report_frame.specs.declared.version.Version.TheVariants.{One, Two}
 use Rattle.report_frame.specs.contracts.version.VersionPartialEq.TheImpl as version_eq

@@ -1,5 +1,5 @@
 -- The groups of a level of a clear table, how they come out, and the rows of the next level.
-use Rattle.std.proofs.Common.{◌≡◌, ◌≢◌, ℕ, suc, ◌+◌, ◌*◌, ◌^◌, ◌<◌, ◌≤◌, Bool, true, false, cond, ◌&&◌, List, [], ◌∷◌, inl, inr, Option, Some, None, refl, sym, ap, ap₂, ◌∙◌, subst, map, filter, length, get_or, slice_index, arith, All, eqb, eqb-true, eq-eqb}
+use Rattle.std.proofs.Common.{◌≡◌, ◌≢◌, ℕ, suc, ◌+◌, ◌^◌, ◌<◌, ◌≤◌, Bool, true, false, cond, ◌&&◌, List, [], ◌∷◌, inl, inr, Some, None, refl, sym, ap, ap₂, ◌∙◌, subst, map, filter, length, get_or, slice_index, arith, All, eqb, eqb-true, eq-eqb}
 use Rattle.std.specs.Prelude.{if◌then◌else◌, nat_le}
 use Rattle.std.specs.Str.{bytes_eq}
 use Rattle.std.specs.Cmp.{both_ways}

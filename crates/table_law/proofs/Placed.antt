@@ -1,5 +1,5 @@
 -- The rows of a table with their places, and the rows of level 0.
-use Rattle.std.proofs.Common.{◌≡◌, ◌≢◌, ℕ, suc, ◌+◌, ◌^◌, ◌<◌, ◌≤◌, List, [], ◌∷◌, inl, inr, Ok, refl, sym, ap, ◌∙◌, subst, map, length, get_or, arith, All}
+use Rattle.std.proofs.Common.{◌≡◌, ◌≢◌, ℕ, suc, ◌+◌, ◌^◌, ◌<◌, ◌≤◌, List, [], ◌∷◌, inl, inr, Ok, refl, sym, ap, ◌∙◌, subst, map, length, get_or, arith}
 use Rattle.std.specs.List.{range_with_len, cons_option}
 use Rattle.star_io.specs.declared.record.Record.{Record}
 use Rattle.star_io.specs.declared.record.Record.TheVariants.{Whole}

@@ -1,6 +1,6 @@
 -- The rows of a table by the first row that begins with the same values.
-use Rattle.std.proofs.Common.{◌≡◌, ℕ, zero, suc, ◌+◌, ◌<◌, ◌≤◌, Bool, true, false, cond, not, ◌&&◌, ◌||◌, List, [], ◌∷◌, ◌++◌, inl, inr, Option, Some, None, refl, sym, ap, ◌∙◌, subst, map, filter, length, take, get_or, arith, eqb, eqb-true, eq-eqb}
-use Rattle.std.specs.Prelude.{if◌then◌else◌, unwrap_or, count_by, slice_index}
+use Rattle.std.proofs.Common.{◌≡◌, ℕ, zero, suc, ◌+◌, ◌<◌, ◌≤◌, Bool, true, false, not, ◌||◌, List, [], ◌∷◌, inl, inr, Some, refl, sym, ap, ◌∙◌, subst, map, filter, length, take, get_or, arith, eqb, eqb-true, eq-eqb}
+use Rattle.std.specs.Prelude.{if◌then◌else◌, unwrap_or, count_by}
 use Rattle.std.specs.Option.{option_map}
 use Rattle.std.specs.List.{list_any}
 use Rattle.std.specs.Cmp.{both_ways}
@@ -9,10 +9,8 @@ use Rattle.std.proofs.lemmas.List.{take_more, get_or-map}
 use Rattle.std.proofs.lemmas.List.Folds.{list_any_more}
 use Rattle.std.proofs.lemmas.List.Sums.{length-filter}
 use Rattle.star_lists.specs.Places.{place_of}
-use Rattle.star_lists.specs.FirstOnes.{first_ones}
 use Rattle.star_lists.proofs.Elements.{In, in_at}
 use Rattle.star_lists.proofs.Bools.{or_true}
-use Rattle.star_lists.proofs.FirstOnes.{first_ones_push, any_first}
 use Rattle.table_law.specs.Prefixes.{Values, value_at, same_front, how_many}
 use Rattle.table_law.specs.Fronts.{first_of, firsts_of}
 use Rattle.table_law.proofs.FrontLaws.{front_itself, front_turned, front_joins, front_before, front_last, front_more, front_alike}

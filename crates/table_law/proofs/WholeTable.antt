@@ -1,5 +1,5 @@
 -- A clear table reveals its prefixes, and nothing else.
-use Rattle.std.proofs.Common.{◌≡◌, ◌≢◌, ℕ, zero, suc, ◌+◌, ◌-◌, ◌^◌, ◌<◌, ◌≤◌, Bool, true, false, ◌&&◌, List, [], ◌∷◌, ◌++◌, inl, inr, Option, Some, None, refl, sym, ap, ◌∙◌, subst, map, filter, length, get_or, slice_index, arith, All}
+use Rattle.std.proofs.Common.{◌≡◌, ◌≢◌, ℕ, zero, suc, ◌+◌, ◌-◌, ◌^◌, ◌<◌, ◌≤◌, Bool, true, false, ◌&&◌, List, [], ◌∷◌, ◌++◌, inl, inr, Some, None, refl, sym, ap, ◌∙◌, subst, map, filter, length, get_or, slice_index, arith, All}
 use Rattle.std.specs.Prelude.{if◌then◌else◌, nat_le}
 use Rattle.std.specs.List.Sorted.{IsStrictlySortedBy}
 use Rattle.std.specs.Cmp.{first_so, second_so}
@@ -18,7 +18,7 @@ use Rattle.star_lists.specs.FirstOnes.{first_ones}
 use Rattle.star_lists.specs.Ascending.{in_order}
 use Rattle.star_lists.specs.Numbered.{joined_below}
 use Rattle.star_lists.proofs.Bools.{both_true}
-use Rattle.star_lists.proofs.Elements.{In, Pairwise, from_filter, in_filter, filter_whole}
+use Rattle.star_lists.proofs.Elements.{In, from_filter, in_filter, filter_whole}
 use Rattle.star_lists.proofs.FirstOnes.{in_firsts}
 use Rattle.star_lists.proofs.Rising.{same_rising}
 use Rattle.layer_walk.specs.declared.outcome.Outcome.{Outcome}
@@ -38,7 +38,7 @@ use Rattle.layer_walk.proofs.Same.{itself, joins}
 use Rattle.layer_walk.proofs.AlikeReveal.{same_opened}
 use Rattle.layer_walk.proofs.WholeReveal.{by_path_total, groups_rise}
 use Rattle.table_law.specs.Prefixes.{Values, value_at, same_front, how_many, is_open, path_to, entry, prefixes_of, prefixes}
-use Rattle.table_law.specs.Layers.{check_before, layer_report}
+use Rattle.table_law.specs.Layers.{layer_report}
 use Rattle.table_law.specs.Clear.{Clear}
 use Rattle.table_law.specs.Reveals.{IsTableOf, IsClean, RevealsOnly}
 use Rattle.table_law.proofs.Lists.{none_made, none_kept, pairwise_filter, pairwise_map}

@@ -1,7 +1,6 @@
 -- What tells the rows of a layer apart: their points, and their heads.
 use Rattle.std.specs.Prelude.{◌≡◌, ◌≢◌, ◌<◌, ℕ, List, [], length, map, get_or, slice_index}
 use Rattle.report_frame.specs.declared.version.Version.TheVariants.{One}
-use Rattle.report_frame.specs.declared.limits.TheConstants.{CHECK_BYTES}
 use Rattle.report_frame.specs.declared.head.Head.{Head}
 use Rattle.adss_commit.specs.declared.context.Derived.{Derived}
 use Rattle.adss_commit.specs.Derivation.{derived, context_head}

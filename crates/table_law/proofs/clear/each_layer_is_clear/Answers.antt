@@ -1,11 +1,9 @@
-use Rattle.std.proofs.Common.{◌≡◌, ◌∙◌, ℕ, ◌+◌, ◌<◌, Bool, true, false, rules, inl, inr, List, [], refl, sym, ap, subst, map, length, get_or, replicate, slice_index, arith}
+use Rattle.std.proofs.Common.{◌≡◌, ◌∙◌, ℕ, ◌+◌, ◌<◌, Bool, false, rules, inl, inr, List, sym, ap, subst, length, replicate, arith}
 use Rattle.std.specs.Prelude.{IsTrue, ◌↔◌}
 use Rattle.std.proofs.lemmas.Bool.{cases_lt, false≢true}
 use Rattle.report_frame.specs.declared.limits.TheConstants.{CHECK_BYTES}
-use Rattle.adss_commit.specs.declared.context.Derived.{Derived}
-use Rattle.table_law.specs.Fronts.{firsts_of}
 use Rattle.table_law.specs.Clear.{IsClearAt, Clear}
-use Rattle.table_law.specs.Marks.{ArePoints, PointsDiffer, HeadsDiffer, derived_at}
+use Rattle.table_law.specs.Marks.{ArePoints}
 use Rattle.table_law.proofs.Growing.{firsts_long, firsts_none}
 use Rattle.table_law.proofs.Contexts.{next_checks, no_checks}
 use Rattle.table_law.proofs.ClearLaws.{points_clear, clear_points, heads_clear, clear_heads}

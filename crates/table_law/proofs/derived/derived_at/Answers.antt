@@ -1,9 +1,8 @@
-use Rattle.std.proofs.Common.{◌≡◌, ◌∙◌, ℕ, ◌+◌, ◌<◌, List, [], ◌∷◌, ◌++◌, refl, sym, ap, length, take, map, get_or, slice_index, arith}
+use Rattle.std.proofs.Common.{◌≡◌, ◌∙◌, ℕ, ◌+◌, ◌<◌, [], ◌∷◌, ◌++◌, sym, ap, length, take, map, get_or, slice_index, arith}
 use Rattle.std.specs.Prelude.{Vec}
 use Rattle.std.specs.declared.alloc.Global.{Global}
-use Rattle.std.proofs.lemmas.List.{get_or-map, get_or-take, length-map, length-take-le, map_more, take_all, get_or_default}
+use Rattle.std.proofs.lemmas.List.{get_or-map, get_or-take, length-map, length-take-le, map_more, take_all}
 use Rattle.report_frame.specs.declared.version.Version.TheVariants.{One}
-use Rattle.adss_commit.specs.declared.context.Context.{Context}
 use Rattle.adss_commit.specs.declared.context.Derived.{Derived}
 use Rattle.adss_commit.specs.Derivation.{derived}
 use Rattle.table_law.specs.Prefixes.{Values, value_at}

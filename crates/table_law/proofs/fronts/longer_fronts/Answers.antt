@@ -1,8 +1,8 @@
-use Rattle.std.proofs.Common.{◌≡◌, ◌∙◌, ℕ, ◌+◌, ◌<◌, inl, inr, List, [], ◌∷◌, ◌++◌, refl, sym, ap, subst, length, take, map, get_or, slice_index, arith}
+use Rattle.std.proofs.Common.{◌≡◌, ◌∙◌, ℕ, ◌+◌, ◌<◌, inl, inr, [], ◌∷◌, ◌++◌, refl, sym, ap, subst, length, map, get_or, slice_index, arith}
 use Rattle.std.proofs.lemmas.Bool.{cases_lt}
 use Rattle.std.proofs.lemmas.List.{length-map, map_more, take_all}
 use Rattle.table_law.specs.declared.fronts.Front.{Front}
-use Rattle.table_law.specs.Prefixes.{Values, value_at}
+use Rattle.table_law.specs.Prefixes.{value_at}
 use Rattle.table_law.specs.Fronts.{first_of, firsts_of}
 use Rattle.table_law.specs.Reveals.{IsValue}
 use Rattle.table_law.proofs.FirstPlaces.{firsts_more}

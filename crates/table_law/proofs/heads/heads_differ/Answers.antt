@@ -1,4 +1,4 @@
-use Rattle.std.proofs.Common.{◌≡◌, ◌≢◌, ◌∙◌, ℕ, ◌+◌, ◌<◌, ◌≤◌, true, inl, inr, List, Some, [], refl, sym, ap, subst, length, get_or, slice_index, arith}
+use Rattle.std.proofs.Common.{◌≡◌, ◌≢◌, ◌∙◌, ℕ, ◌+◌, ◌<◌, true, inl, inr, List, [], sym, ap, subst, length, get_or, slice_index, arith}
 use Rattle.std.specs.Ordering.{is_eq}
 use Rattle.std.specs.BTreeMap.{BTreeMap, get}
 use Rattle.std.specs.Prelude.{unwrap_or}
@@ -10,7 +10,7 @@ use Rattle.adss_commit.specs.Derivation.{derived, box_of}
 use Rattle.table_law.specs.declared.heads.HeadMark.{HeadMark}
 use Rattle.table_law.specs.Prefixes.{Values, value_at}
 use Rattle.table_law.specs.Layers.{layer_context}
-use Rattle.table_law.specs.Marks.{row_head, derived_at, HeadsDiffer}
+use Rattle.table_law.specs.Marks.{row_head, HeadsDiffer}
 use Rattle.table_law.proofs.FirstPlaces.{HasFirstsOf, chosen_more, chosen_less, none_tied, one_tied}
 use Rattle.table_law.proofs.FrontMarks.{value_there}
 use Rattle.table_law.proofs.Contexts.{derived_one, derived_long}

@@ -1,7 +1,6 @@
-use Rattle.std.proofs.Common.{◌≡◌, ◌∙◌, ℕ, suc, ◌+◌, [], ◌∷◌, ◌++◌, refl, sym, ap, length, slice_index, arith}
+use Rattle.std.proofs.Common.{◌≡◌, ◌∙◌, ℕ, suc, ◌+◌, [], ◌∷◌, ◌++◌, refl, ap, length, slice_index, arith}
 use Rattle.report_frame.specs.declared.version.Version.TheVariants.{One}
-use Rattle.layer_walk.specs.declared.path.Step.{Step}
-use Rattle.table_law.specs.Prefixes.{value_at, path_to, step_at}
+use Rattle.table_law.specs.Prefixes.{value_at, path_to}
 use Rattle.table_law.proofs.FrontLaws.{length-path_to}
 use Rattle.table_law.proofs.FrontMarks.{value_there}
 use Rattle.table_law.proofs.prefixes.path_to.Goals as goal

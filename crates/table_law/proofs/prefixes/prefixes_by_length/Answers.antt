@@ -1,4 +1,4 @@
-use Rattle.std.proofs.Common.{◌≡◌, ◌∙◌, ℕ, ◌+◌, ◌<◌, true, rules, List, [], refl, sym, ap, subst, length, get_or, replicate, slice_index, arith}
+use Rattle.std.proofs.Common.{◌≡◌, ◌∙◌, ◌+◌, true, rules, ap, length, replicate, arith}
 use Rattle.table_law.specs.Fronts.{firsts_of}
 use Rattle.table_law.proofs.Growing.{firsts_long, firsts_below, firsts_none, opens_none, is_table}
 use Rattle.table_law.proofs.prefixes.prefixes_by_length.Goals as goal

@@ -1,9 +1,9 @@
-use Rattle.std.proofs.Common.{◌≡◌, ◌∙◌, ℕ, ◌+◌, ◌<◌, ◌≤◌, Bool, true, false, ◌&&◌, List, [], ◌∷◌, ◌++◌, refl, sym, ap, length, take, get_or, slice_index, arith, append_assoc, eqb, eqb-true, eq-eqb}
+use Rattle.std.proofs.Common.{◌≡◌, ◌∙◌, ℕ, ◌+◌, ◌<◌, Bool, true, false, ◌&&◌, List, [], ◌∷◌, ◌++◌, refl, sym, ap, length, take, get_or, slice_index, arith, append_assoc, eqb, eqb-true, eq-eqb}
 use Rattle.std.specs.Prelude.{Vec, if◌then◌else◌}
 use Rattle.std.specs.declared.alloc.Global.{Global}
 use Rattle.std.proofs.lemmas.List.{take_all}
 use Rattle.layer_walk.specs.declared.revealed.OpenedGroup.{OpenedGroup}
-use Rattle.table_law.specs.Prefixes.{Values, is_open, how_many, path_to, entry, prefixes_of}
+use Rattle.table_law.specs.Prefixes.{Values, is_open, how_many, path_to, entry}
 use Rattle.table_law.specs.Fronts.{first_of}
 use Rattle.table_law.proofs.Growing.{shown, shown_more, shown_all, first_at, firsts_long, own_count, open_at, opens_long}
 use Rattle.table_law.proofs.prefixes.push_prefixes.Goals as goal
