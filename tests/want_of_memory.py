@@ -91,6 +91,9 @@ def red(client, epoch=1):
 SEED = "--seed=" + 64 * "0"
 
 # A run: what it is, its words, its input and its output.
+# The book of no record for epoch 1, as docs/FORMATS.md lays it out.
+EMPTY_BOOK = b"STARBOOK\x01" + bytes([0, 0, 0, 1]) + bytes(8)
+
 RUNS = [
     ("check on the empty input", ["check"], b"", b"records=0 good=0 refused=0\n"),
     ("check on a report, a long record and a cut one", ["check"], red(0) + formats.record(bytes(9000)) + b"abc",
@@ -107,6 +110,13 @@ RUNS = [
      b"level 0 opened=0 few=1 noline=0 badvalue=0\nrecords=1 rows=1 refused=0\n"
      b"text=2b1e13f944338ac91b727831632c537af6f3c085c3f52211c2709542bfecabf3\n"),
     ("selftest", ["selftest"], b"", b"".join(b"vector %d ok\n" % i for i in range(1, 8)) + b"vectors=7 ok=7\n"),
+    ("expect on two clients", ["expect", "--epoch", "1", "--thresholds", "2", SEED], b"red\nred\n",
+     b"open red~2 points=2 agree=2 members=2\nprefixes=1 clear=yes\n"),
+    ("book on the empty input", ["book", "--epoch", "1"], b"", EMPTY_BOOK),
+    ("merge on two empty books", ["merge", "--epoch", "1"], 2 * EMPTY_BOOK, EMPTY_BOOK),
+    ("openbook on an empty book", ["openbook", "--epoch", "1", "--workers", "1"], EMPTY_BOOK, b"records=0 rows=0 refused=0\n"),
+    ("certify on one client's report", ["certify", "--epoch", "1"], red(0), b""),
+    ("audit on the empty input", ["audit"], b"", b"certs=0 yes=0\n"),
     ("epochs on the reports of two epochs and a cut record", ["epochs", "--workers", "1"], red(0, 2) + red(0) + red(1) + b"abc",
      b"epoch 1\nopen red~2 points=2 agree=2 members=2\nlevel 0 opened=1 few=0 noline=0 badvalue=0\nrecords=2 rows=2 refused=0\n"
      b"epoch 2\nlevel 0 opened=0 few=1 noline=0 badvalue=0\nrecords=1 rows=1 refused=0\n"
