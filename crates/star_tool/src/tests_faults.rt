@@ -197,19 +197,6 @@ const TRIAL_TOLD: &[u8] =
 const VECTORS_TOLD: &[u8] =
     b"vector 1 ok\nvector 2 ok\nvector 3 ok\nvector 4 ok\nvector 5 ok\nvector 6 ok\nvector 7 ok\nvectors=7 ok=7\n";
 
-const EXPECT: &str =
-    "expect --epoch 1 --thresholds 2 --seed 0000000000000000000000000000000000000000000000000000000000000000";
-
-const EXPECTED: &[u8] = b"open red~2 points=2 agree=2 members=2\nprefixes=1 clear=yes\n";
-
-// The book of no record for epoch 1.
-const EMPTY_BOOK: &[u8] = b"STARBOOK\x01\x00\x00\x00\x01\x00\x00\x00\x00\x00\x00\x00\x00";
-
-const NOTHING_OPENED: &[u8] = b"records=0 rows=0 refused=0\n";
-
-const EPOCHS_TOLD: &[u8] =
-    b"epoch 1\nopen red~2 points=2 agree=2 members=2\nlevel 0 opened=1 few=0 noline=0 badvalue=0\nrecords=2 rows=2 refused=0\nrecords=2 epochs=1 refused=0\n";
-
 // The record of the report of `red` under threshold 2, in epoch 1, from client 0 with a seed of zeros.
 const RED: &[u8] =
     b"\x00\x00\x00\x8d\x53\x54\x01\x00\x00\x00\x00\x01\x00\x02\x06\xb8\xe0\xad\xa0\xf1\x3d\x91\x0b\x79\xc5\x9d\x12\x73\x28\x79\x08\x81\xd8\xd7\xcf\x3f\xcb\x23\x03\x56\xf5\xca\xe5\xcc\xc5\x8f\xf6\x7d\x67\x87\x17\xbd\xf3\xb1\xda\x3e\x31\x81\x1c\xf2\xae\x3b\x44\x81\x6b\xc0\x21\x97\x30\x80\x80\x58\x60\xf2\xca\x6d\x34\x5b\xa6\xb0\x48\x39\xdd\xa5\x68\x52\xe7\x95\x5c\x27\xb0\x84\x70\x4b\x03\xf8\xd0\x5b\x40\x5d\x6a\xe5\x53\x86\xbd\x28\xbd\xd2\x19\xb8\x00\x01\x0d\x30\x52\x52\x36\x5b\x25\xa5\x7e\xdd\xc6\x95\xd8\x91\x1b\x06\xed\x8d\x86\x70\xd5\x55\x34\x75\xfe\x2e\x73\xcb\x25\x78\xd6\x40\xc0";
@@ -224,12 +211,6 @@ fn each_verb_bears_each_fault(rt: HostRuntime) -> Result<(), Fail> {
         Case::new("make --epoch 1 --thresholds 2", b"red\n", RED),
         Case::new("gen --number 0 --reports 1 --liars 0", b"", TRIAL_TOLD),
         Case::new("selftest", b"", VECTORS_TOLD),
-        Case::new(EXPECT, b"red\nred\n", EXPECTED),
-        Case::new("book --epoch 1", b"", EMPTY_BOOK),
-        Case::new("merge --epoch 1", EMPTY_BOOK, EMPTY_BOOK),
-        Case::new("openbook --epoch 1", EMPTY_BOOK, NOTHING_OPENED),
-        Case::new("audit", b"", b"certs=0 yes=0\n"),
-        Case::new("epochs", &reds, EPOCHS_TOLD),
     ];
     for case in &cases {
         assert!(rt;
