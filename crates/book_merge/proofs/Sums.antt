@@ -1,7 +1,7 @@
 -- The sum of books, reading after reading.
-use Rattle.std.proofs.Common.{◌≡◌, ℕ, ◌+◌, ◌-◌, ◌*◌, ◌<◌, ◌≤◌, List, [], ◌∷◌, length, drop, Bool, true, false, cond, not, Option, None, Some, Result, Ok, Err, refl, sym, ap, ◌∙◌, subst, arith}
+use Rattle.std.proofs.Common.{◌≡◌, ℕ, ◌+◌, ◌-◌, ◌*◌, ◌<◌, ◌≤◌, List, [], ◌∷◌, length, drop, Bool, true, false, cond, not, inl, inr, Option, None, Some, Result, Ok, Err, refl, sym, ap, ◌∙◌, subst, arith}
 use Rattle.std.specs.Prelude.{⊤, ◌==◌, nat_lt, IfOk, IfErr, MatchResult, IsErrAnd}
-use Rattle.std.proofs.lemmas.Bool.{lt-ltb, le-ltb}
+use Rattle.std.proofs.lemmas.Bool.{cases_lt, lt-ltb, le-ltb}
 use Rattle.std.proofs.lemmas.List.{length-drop, drop-drop, nil_from_length}
 use Rattle.star_io.specs.declared.record.TheConstants.{MAX_RECORDS}
 use Rattle.book_file.specs.Book.{Book, total_of}
@@ -215,6 +215,30 @@ bad_long e number room so_far bad (Some from) (Some left) after new turn fits mo
       many_merged e from many,
       rest.1 ∙ ap (λ (l : List ℕ). Some l) (rest_is ∙ sym (rest_at from (MAX_BOOKS_BYTES + 1) (bad_ends e number room so_far from left bad gone took.0 took.1 fits))),
     )
+
+-- what is told where the input was read to its end, or to a byte behind the limit
+pub bad_answered : (e number room : ℕ) (so_far : Result Book MergeFault) (bad : BadBook) (old middle after new : Option (List ℕ)) (answer : MergeFault) → Turn middle after (Err (next.Bad bad)) → bad.used ≤ room
+    → ((rest : List ℕ) → after ≡ Some rest → length rest ≤ room - bad.used → (answer ≡ fault_with number so_far bad) × (new ≡ Some []))
+    → ((rest : List ℕ) → after ≡ Some rest → room - bad.used < length rest → (answer ≡ TooMany) × (new ≡ Some (drop (room - bad.used + 1) rest)))
+    → HasGone e number room so_far old middle → IsFault e old new answer
+bad_answered e number room so_far bad None middle after new answer turn fits end more gone bytes told = absurd cc
+bad_answered e number room so_far bad (Some from) None after new answer turn fits end more gone bytes told = absurd gone
+bad_answered e number room so_far bad (Some from) (Some left) after new answer turn fits end more gone =
+    let behind : List ℕ = drop bad.used left in
+    let is : after ≡ Some behind = (turn left refl).2 in
+    let same : (rest : List ℕ) → after ≡ Some rest → behind ≡ rest = λ rest here. let both = sym is ∙ here in cc both in
+    elim (cases_lt (room - bad.used) (length behind)) [
+      | inl many ↦
+          let told = more behind is many in
+          subst (IsFault e (Some from) new) (sym told.0)
+          (bad_long e number room so_far bad (Some from) (Some left) after new turn fits
+          (λ rest here. subst (λ (r : List ℕ). (room - bad.used < length r) × (new ≡ Some (drop (room - bad.used + 1) r))) (same rest here) (many, told.1)) gone)
+      | inr few ↦
+          let told = end behind is few in
+          subst (IsFault e (Some from) new) (sym told.0)
+          (bad_told e number room so_far bad (Some from) (Some left) after new turn fits
+          (λ rest here. subst (λ (r : List ℕ). (length r ≤ room - bad.used) × (new ≡ Some [])) (same rest here) (few, told.1)) gone)
+    ]
 
 -- so many books have too many bytes
 pub too_many_books : (e room : ℕ) (so_far : Result Book MergeFault) (old left : Option (List ℕ)) → HasGone e MAX_BOOKS room so_far old left → IsFault e old left TooMany

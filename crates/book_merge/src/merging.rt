@@ -1,13 +1,14 @@
 // The sum of books that stand one behind the other.
-ghost use Rattle.std.specs.Prelude.{◌≡◌, ◌≤◌, IfOk, IfErr, IsErrOf};
-ghost use Rattle.star_io.specs.Faults.{Rose};
+ghost use Rattle.std.specs.Prelude.{◌≡◌, ◌≤◌, ◌<◌, ◌+◌, ◌^◌, ℕ, List, [], Some, length, drop, IfOk, IfErr, IsErrOf};
+ghost use Rattle.star_io.specs.Faults.{Rose, HasCause};
+ghost use Rattle.book_merge.specs.declared.fault.MergeFault.TheVariants.{TooMany};
 ghost use Rattle.book_merge.specs.Merging.{HasFault, IsAnswer, IsSum, fault_with, sum_with};
 
 use crate::draining::ends_within;
 use crate::fault::{MergeError, MergeFault};
 use crate::limits::{MAX_BOOKS, MAX_BOOKS_BYTES};
 use book_file::{BadBook, NextBookError, RowBook, absorb, next_book};
-use star_io::{MAX_RECORDS, NoMemory, Source};
+use star_io::{Failed, MAX_RECORDS, NoMemory, Source};
 use std::alloc::Global;
 
 /// The sum of the books of an epoch that an input has, one behind the other. No book gives the empty one.
@@ -38,10 +39,11 @@ pub fn read_sum<S: Source>(alloc: Global, epoch: u32, input: &mut S) -> Result<R
             }
             Ok(None) => return answer_of(so_far),
             Err(NextBookError::Bad(bad)) => {
-                if room < bad.used || !ends_within(input, room - bad.used)? {
+                if room < bad.used {
                     return Err(MergeError::Fault(MergeFault::TooMany));
                 }
-                return Err(MergeError::Fault(fault_with(so_far, number, &bad)));
+                let fault = fault_with(so_far, number, &bad);
+                return Err(MergeError::Fault(told_at_the_end(input, room - bad.used, fault)?));
             }
             Err(NextBookError::Read) => return Err(MergeError::Read),
             Err(NextBookError::NoMemory) => return Err(MergeError::NoMemory),
@@ -86,6 +88,26 @@ fn fault_with(so_far: Result<RowBook, MergeFault>, number: u32, bad: &BadBook) -
             at: bad.at,
         },
         Err(fault) => fault,
+    }
+}
+
+// The fault, told once the input was read to its end, if at most `room` bytes are left. Else there are too many.
+fn told_at_the_end<S: Source>(
+    input: &mut S,
+    room: u64,
+    fault: MergeFault,
+) -> Result<MergeFault, Failed>
+    requires { room < 2 ^ 63 }
+    ensures end { IfOk result (λ told. (bytes : List ℕ) → S.left input.old ≡ Some bytes →
+        length bytes ≤ room → (told ≡ fault) × (S.left input.new ≡ Some [])) }
+    ensures more { IfOk result (λ told. (bytes : List ℕ) → S.left input.old ≡ Some bytes →
+        room < length bytes → (told ≡ TooMany) × (S.left input.new ≡ Some (drop (room + 1) bytes))) }
+    ensures cause { HasCause (S.faults input.old) (S.faults input.new) result }
+{
+    if ends_within(input, room)? {
+        Ok(fault)
+    } else {
+        Ok(MergeFault::TooMany)
     }
 }
 

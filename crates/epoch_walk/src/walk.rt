@@ -9,7 +9,7 @@ ghost use Rattle.epoch_walk.specs.Standing.{StandsFor};
 use crate::epochs_out::EpochsOut;
 use crate::revealing::parts_of;
 use crate::sorting::epoch_of;
-use crate::stray::{Stray, Strays};
+use crate::stray::{Strays, keep};
 use crate::walks::hand;
 use layer_walk::Walk;
 use recovery_pool::Gate;
@@ -67,7 +67,7 @@ impl EpochWalk {
         let index = self.taken;
         match epoch_of(&item) {
             Ok(epoch) => hand(self.alloc, &mut self.walks, epoch, item)?,
-            Err(why) => self.strays.push(Stray { index, why })?,
+            Err(why) => keep(&mut self.strays, index, why)?,
         }
         self.taken += 1;
         Ok(())

@@ -1,5 +1,5 @@
 // The prefixes of a table, layer by layer.
-ghost use Rattle.std.specs.Prelude.{◌≡◌, ◌<◌, ◌≤◌, ◌+◌, ◌++◌, ℕ, suc, [], length, get_or, slice_index, IfOk, OnOk};
+ghost use Rattle.std.specs.Prelude.{◌≡◌, ◌<◌, ◌≤◌, ◌+◌, ◌++◌, ◌&&◌, nat_le, ℕ, suc, [], length, get_or, slice_index, IfOk, OnOk};
 ghost use Rattle.report_frame.specs.Thresholds.{AreThresholds};
 ghost use Rattle.report_frame.specs.declared.version.Version.TheVariants.{One};
 ghost use Rattle.star_lists.specs.Numbered.{joined_below};
@@ -69,10 +69,17 @@ fn opens_after(
     let threshold = u32::from(thresholds[layer]);
     let mut longer = Vec::new(alloc);
     'rows: for i in 0..table.len() {
-        let enough = threshold <= counts[firsts[i] as usize];
-        longer.push(opens[i] && enough)?;
+        let rows = counts[firsts[i] as usize];
+        longer.push(is_open(opens[i], threshold, rows))?;
     }
     Ok(longer)
+}
+
+// Whether a prefix is open: the one that is a value shorter is, and enough rows begin with it.
+fn is_open(shorter: bool, threshold: u32, rows: u32) -> bool
+    ensures { result ≡ (shorter && nat_le threshold rows) }
+{
+    shorter && threshold <= rows
 }
 
 // Puts the open prefixes of so many values last, each at the first row that begins with it.

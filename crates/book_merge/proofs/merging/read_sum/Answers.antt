@@ -5,9 +5,8 @@ use Rattle.book_file.specs.declared.book_error.ReadBook.{ReadBook}
 use Rattle.book_file.specs.Book.{Book}
 use Rattle.book_merge.specs.declared.fault.MergeFault.{MergeFault}
 use Rattle.book_merge.specs.Merging.{fault_with, sum_with}
-use Rattle.book_merge.proofs.Sums.{Turn, HasGone, OfEpoch, IsFault, begun, one_more, all_read, book_past, bad_past, bad_told, bad_long, too_many_books, sum_told, fault_told, epoch_kept, epoch_told}
+use Rattle.book_merge.proofs.Sums.{Turn, HasGone, OfEpoch, IsFault, begun, one_more, all_read, book_past, bad_past, bad_answered, too_many_books, sum_told, fault_told, epoch_kept, epoch_told}
 use Rattle.book_merge.proofs.merging.read_sum.Goals as goal
-use Rattle.book_merge.proofs.merging.read_sum.Goals.{then-room-bad-via-then-room-bad, then-room-bad-via-else-room-bad+in_ok-ends_within-in-Err-Bad+then-not-branch}
 
 -- what a turn takes that was answered so
 turn_of : (middle new : Option (List ℕ)) (result answer : Result (Option ReadBook) NextBookError) → result ≡ answer → Turn middle new result → Turn middle new answer
@@ -46,31 +45,23 @@ pub returns-then-room-bad-clause-fault : goal.returns-then-room-bad-clause-fault
 returns-then-room-bad-clause-fault g c =
     let is : c.next_book.result ≡ Err (next.Bad c.in-Err-Bad.bad) = cc in
     let middle = g.S.Source.left c.loop-number.input in
-    let after = g.S.Source.left c.next_book.new.source in
-    let turn = turn_of middle after c.next_book.result (Err (next.Bad c.in-Err-Bad.bad)) is c.next_book.ensures.next in
-    elim c.then-room-bad.branch [
-      | then-room-bad-via-then-room-bad w ↦
-          let over = rw c.in-Err-Bad.field-0-is at w.if-room-bad.true in
-          rw w.input-is (bad_past c.args.epoch c.loop-number.number c.loop-number.room c.loop-number.so_far c.in-Err-Bad.bad _ middle after turn over c.loop-number.invariant.gone)
-      | then-room-bad-via-else-room-bad+in_ok-ends_within-in-Err-Bad+then-not-branch w ↦
-          let fits = rw c.in-Err-Bad.field-0-is at w.if-room-bad.false in
-          let more = rw c.in-Err-Bad.field-0-is at (w.in_ok-ends_within-in-Err-Bad.ensures.more w.if-not-branch.true) in
-          rw w.input-is (bad_long c.args.epoch c.loop-number.number c.loop-number.room c.loop-number.so_far c.in-Err-Bad.bad _ middle after (g.S.Source.left w.ends_within.new.input) turn fits
-          more c.loop-number.invariant.gone)
-    ]
+    let new = g.S.Source.left c.next_book.new.source in
+    let turn = turn_of middle new c.next_book.result (Err (next.Bad c.in-Err-Bad.bad)) is c.next_book.ensures.next in
+    bad_past c.args.epoch c.loop-number.number c.loop-number.room c.loop-number.so_far c.in-Err-Bad.bad _ middle new turn (rw c.in-Err-Bad.field-0-is at c.if-room-bad.true) c.loop-number.invariant.gone
 
 pub returns-in-Err-Bad-clause-fault : goal.returns-in-Err-Bad-clause-fault
 returns-in-Err-Bad-clause-fault g c =
     let is : c.next_book.result ≡ Err (next.Bad c.in-Err-Bad.bad) = cc in
     let middle = g.S.Source.left c.loop-number.input in
     let after = g.S.Source.left c.next_book.new.source in
-    let new = g.S.Source.left c.ends_within.new.input in
+    let new = g.S.Source.left c.told_at_the_end.new.input in
     let fits = rw c.in-Err-Bad.field-0-is at c.if-room-bad.false in
-    let ended = rw c.in-Err-Bad.field-0-is at (c.in_ok-ends_within-in-Err-Bad.ensures.end c.if-not-branch.false) in
     let judged = rw c.in-Err-Bad.field-0-is at c.fault_with.ensures in
-    let told = bad_told c.args.epoch c.loop-number.number c.loop-number.room c.loop-number.so_far c.in-Err-Bad.bad (g.S.Source.left c.args.input.now) middle after new
-    (turn_of middle after c.next_book.result (Err (next.Bad c.in-Err-Bad.bad)) is c.next_book.ensures.next) fits ended c.loop-number.invariant.gone in
-    subst (λ (fault : MergeFault). IsFault c.args.epoch (g.S.Source.left c.args.input.now) new fault) (sym judged) told
+    let end = rw c.in-Err-Bad.field-0-is at c.in_ok-told_at_the_end.ensures.end in
+    let more = rw c.in-Err-Bad.field-0-is at c.in_ok-told_at_the_end.ensures.more in
+    bad_answered c.args.epoch c.loop-number.number c.loop-number.room c.loop-number.so_far c.in-Err-Bad.bad (g.S.Source.left c.args.input.now) middle after new c.in_ok-told_at_the_end.told
+    (turn_of middle after c.next_book.result (Err (next.Bad c.in-Err-Bad.bad)) is c.next_book.ensures.next) fits
+    (λ rest here few. let told = end rest here few in (told.0 ∙ judged, told.1)) more c.loop-number.invariant.gone
 
 pub loop-number-preserved : goal.loop-number-preserved
 loop-number-preserved g c =

@@ -3,7 +3,7 @@ use Rattle.epoch_walk.specs.Seen.{EpochWalkView}
 use Rattle.epoch_walk.specs.Standing.{StandsFor}
 use Rattle.epoch_walk.proofs.Taking.{takes_report, takes_stray, room}
 use Rattle.epoch_walk.proofs.walk.EpochWalk.take.Goals as goal
-use Rattle.epoch_walk.proofs.walk.EpochWalk.take.Goals.{in-Ok+in_ok-hand-in-Ok, in-Err+in_ok-push-in-Err}
+use Rattle.epoch_walk.proofs.walk.EpochWalk.take.Goals.{in-Ok+in_ok-hand-in-Ok, in-Err+in_ok-keep-in-Err}
 
 pub hand-requires : goal.hand-requires
 hand-requires c =
@@ -22,10 +22,10 @@ returns-clause-stands c records stands =
           subst (λ (v : EpochWalkView). StandsFor v (records ++ c.args.item ∷ []))
           (sym (λ i. record { taken = (w.self-inside-is i).taken + 1; walks = (w.self-inside-is i).walks.entries; strays = (w.self-inside-is i).strays }))
           (takes_report s.taken s.walks w.hand.new.walks s.strays c.args.item w.in-Ok.epoch (sym c.epoch_of.ensures ∙ w.in-Ok.is) w.hand.ensures.ordered w.in_ok-hand-in-Ok.ensures.here w.in_ok-hand-in-Ok.ensures.elsewhere records before)
-      | in-Err+in_ok-push-in-Err w ↦
+      | in-Err+in_ok-keep-in-Err w ↦
           subst (λ (v : EpochWalkView). StandsFor v (records ++ c.args.item ∷ []))
           (sym ((λ i. record { taken = (w.self-inside-is i).taken + 1; walks = (w.self-inside-is i).walks.entries; strays = (w.self-inside-is i).strays })
-          ∙ ap (λ l. record { taken = s.taken + 1; walks = s.walks.entries; strays = l }) w.in_ok-push-in-Err.ensures.added))
+          ∙ ap (λ l. record { taken = s.taken + 1; walks = s.walks.entries; strays = l }) w.in_ok-keep-in-Err.ensures.added))
           (takes_stray s.taken s.walks.entries s.strays c.args.item w.in-Err.why (sym c.epoch_of.ensures ∙ w.in-Err.is) records before)
     ]
 
@@ -40,6 +40,6 @@ invariant_of-self-2 c =
       stands = returns-clause-stands c c.self.invariant.records (subst (λ v. StandsFor v c.self.invariant.records) (sym seen) c.self.invariant.stands);
       few = elim c.match-epoch_of.branch [
         | in-Ok+in_ok-hand-in-Ok w ↦ omega (arith, ap (λ v. v.taken) w.self-inside-is, c.requires)
-        | in-Err+in_ok-push-in-Err w ↦ omega (arith, ap (λ v. v.taken) w.self-inside-is, c.requires)
+        | in-Err+in_ok-keep-in-Err w ↦ omega (arith, ap (λ v. v.taken) w.self-inside-is, c.requires)
       ];
     }
