@@ -1,3 +1,4 @@
+// What a report of one layer commits to.
 ghost use Rattle.std.specs.Prelude.{◌≡◌};
 ghost use Rattle.adss_commit.specs.Derivation.{context_key, context_tag, context_check, coin_key, derived};
 

@@ -1,4 +1,5 @@
-// The labelled hash: SHA-256 over the label of a version, one byte for the kind of what is derived, and a text.
+// The labelled hash: SHA-256 over the label of a version, one byte for the kind of what is derived,
+// and a text.
 ghost use Rattle.std.specs.Prelude.{◌≡◌, take};
 ghost use Rattle.std.specs.Int.{w8, to_be_bytes};
 ghost use Rattle.adss_commit.specs.Derivation.{label, hashed, context_bytes};

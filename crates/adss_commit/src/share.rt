@@ -57,7 +57,8 @@ fn values_behind(key: &[u8; 32], powers: usize, x: Fe) -> [Fe; 3]
 fn values_from_block(key: &[u8; 32], block: usize, powers: usize, x: Fe, behind: [Fe; 3]) -> [Fe; 3]
     requires within { BLOCK_POWERS * block < powers }
     requires few { powers < MAX_THRESHOLD_TWO }
-    requires behind { behind ≡ values_from key.now (BLOCK_POWERS * (block + 1)) (powers - BLOCK_POWERS * (block + 1)) x }
+    requires behind { behind
+        ≡ values_from key.now (BLOCK_POWERS * (block + 1)) (powers - BLOCK_POWERS * (block + 1)) x }
     ensures { result ≡ values_from key.now (BLOCK_POWERS * block) (powers - BLOCK_POWERS * block) x }
 {
     let count = (powers - BLOCK_POWERS * block).min(BLOCK_POWERS);
@@ -78,7 +79,8 @@ fn values_from_block(key: &[u8; 32], block: usize, powers: usize, x: Fe, behind:
 fn coins_of_block(key: &[u8; 32], block: usize, count: usize) -> [u8; BLOCK_BYTES]
     requires count { count ≤ BLOCK_POWERS }
     requires few { block < MAX_THRESHOLD_TWO }
-    ensures { take (POWER_BYTES * count) result ≡ keystream key.now zero_nonce 0 (BLOCK_BYTES * block) (POWER_BYTES * count) }
+    ensures { take (POWER_BYTES * count) result
+        ≡ keystream key.now zero_nonce 0 (BLOCK_BYTES * block) (POWER_BYTES * count) }
 {
     let mut coins = [0; BLOCK_BYTES];
     xor_stream(

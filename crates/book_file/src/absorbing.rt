@@ -13,7 +13,8 @@ use star_io::{MAX_RECORDS, NoMemory};
 use std::alloc::Global;
 use std::collections::BTreeMap;
 
-/// Adds the counts and the dropped records of another book of the epoch. After `NoMemory` the book is as before.
+/// Adds the counts and the dropped records of another book of the epoch. After `NoMemory` the book
+/// is as before.
 pub fn absorb(into: &mut RowBook, other: &RowBook) -> Result<(), NoMemory>
     requires epoch { into.old.epoch ≡ other.now.epoch }
     requires few { total_of into.old + total_of other.now ≤ MAX_RECORDS }
@@ -33,12 +34,14 @@ fn add_all(
     into: &mut BTreeMap<FrameBytes, u32>,
     other: &BTreeMap<FrameBytes, u32>,
 ) -> Result<(), NoMemory>
-    requires few { sum (values_of into.old.entries) + sum (values_of other.now.entries) ≤ MAX_RECORDS }
+    requires few { sum (values_of into.old.entries) + sum (values_of other.now.entries)
+        ≤ MAX_RECORDS }
     requires ascending { IsStrictlySortedBy by_bytes (keys_of into.old.entries) }
     requires counts { All (λ n. 1 ≤ n) (values_of into.old.entries) }
     requires other_counts { All (λ n. 1 ≤ n) (values_of other.now.entries) }
     ensures sum { OnOk result (into.new.entries ≡ entries_sum into.old.entries other.now.entries) }
-    ensures total { OnOk result (sum (values_of into.new.entries) ≡ sum (values_of into.old.entries) + sum (values_of other.now.entries)) }
+    ensures total { OnOk result (sum (values_of into.new.entries)
+        ≡ sum (values_of into.old.entries) + sum (values_of other.now.entries)) }
     ensures kept { OnErr result (into.new.entries ≡ into.old.entries) }
 {
     let mut done = 0;
@@ -57,8 +60,10 @@ fn add_all(
 // Takes the counts of the first entries back.
 fn take_back(into: &mut BTreeMap<FrameBytes, u32>, other: &BTreeMap<FrameBytes, u32>, done: usize)
     requires { All (λ n. 1 ≤ n) (values_of other.now.entries) }
-    ensures { (before : List Entry) → IsStrictlySortedBy by_bytes (keys_of before) → All (λ n. 1 ≤ n) (values_of before) →
-        into.old.entries ≡ entries_sum before (take done other.now.entries) → into.new.entries ≡ before }
+    ensures { (before : List Entry) → IsStrictlySortedBy by_bytes (keys_of before) →
+        All (λ n. 1 ≤ n) (values_of before) →
+        into.old.entries ≡ entries_sum before (take done other.now.entries) →
+        into.new.entries ≡ before }
 {
     let mut left = done;
     for (frame, count) in other.iter() {

@@ -1,3 +1,4 @@
+// A book, and what it counts.
 ghost use Rattle.std.specs.Prelude.{◌≡◌, ◌<◌, ◌≤◌, ◌+◌, [], ◌∷◌, ◌++◌, List, ℕ, true, length, None, Some, OnOk, OnErr, IsTrue, ◌↔◌};
 ghost use Rattle.std.specs.List.{slice_get};
 ghost use Rattle.std.specs.Option.{option_map};
@@ -15,8 +16,9 @@ use std::collections::BTreeMap;
 use std::collections::btree_map::Iter;
 use std::marker::Model;
 
-/// A partial book: the frames of one epoch and of level 0 in ascending order, each with the number of records that were
-/// it, and the number of all other records. At most 131,072 records are counted.
+/// A partial book: the frames of one epoch and of level 0 in ascending order, each with the number
+/// of records that were it, and the number of all other records. At most 131,072 records are
+/// counted.
 ///
 /// An ordered map holds the frames, so n records cost n log n, whatever the frames are.
 #[derive(Drop)]
@@ -166,8 +168,10 @@ impl RowBook {
     pub fn add(&mut self, item: &Record) -> Result<(), NoMemory>
         requires { total_of self.old < MAX_RECORDS }
 
-        // It becomes the sum with the book of that record, and so the book of all records that were added.
-        ensures added { OnOk result (self.new ≡ sum_of self.old (book_of self.old.epoch (item.now ∷ []))) }
+        // It becomes the sum with the book of that record, and so the book of all records that were
+        // added.
+        ensures added { OnOk result (self.new
+            ≡ sum_of self.old (book_of self.old.epoch (item.now ∷ []))) }
         ensures more { (records : List Record) → self.old ≡ book_of self.old.epoch records →
             OnOk result (self.new ≡ book_of self.old.epoch (records ++ item.now ∷ [])) }
         ensures total { OnOk result (total_of self.new ≡ total_of self.old + 1) }
@@ -186,7 +190,8 @@ impl RowBook {
     fn count_frame(&mut self, frame: &[u8]) -> Result<(), NoMemory>
         requires few { total_of self.old < MAX_RECORDS }
         requires good { is_outer_frame self.old.epoch frame.now ≡ true }
-        ensures added { OnOk result (self.new ≡ sum_of self.old (one_book self.old.epoch (Some frame.now))) }
+        ensures added { OnOk result (self.new
+            ≡ sum_of self.old (one_book self.old.epoch (Some frame.now))) }
         ensures total { OnOk result (total_of self.new ≡ total_of self.old + 1) }
         ensures kept { OnErr result (self.new ≡ self.old) }
     {

@@ -12,7 +12,8 @@ pub enum BookKind {
     Magic,
     /// The version isn't the one that is read.
     Version,
-    /// More records were dropped than a book may count, or a count is 0 or takes the total above that limit.
+    /// More records were dropped than a book may count, or a count is 0 or takes the total above
+    /// that limit.
     Count,
     /// The bytes aren't a good frame of the book's epoch and of level 0.
     Frame,

@@ -29,8 +29,10 @@ pub(crate) fn count_more(
     count: u32,
 ) -> Result<(), NoMemory>
     requires { sum (values_of entries.old.entries) + count < 2 ^ 32 }
-    ensures counted { OnOk result (entries.new.entries ≡ entries_sum entries.old.entries ((frame.now, count) ∷ [])) }
-    ensures total { OnOk result (sum (values_of entries.new.entries) ≡ sum (values_of entries.old.entries) + count) }
+    ensures counted { OnOk result (entries.new.entries
+        ≡ entries_sum entries.old.entries ((frame.now, count) ∷ [])) }
+    ensures total { OnOk result (sum (values_of entries.new.entries)
+        ≡ sum (values_of entries.old.entries) + count) }
     ensures kept { OnErr result (entries.new.entries ≡ entries.old.entries) }
 {
     let frame = FrameBytes::of(alloc, frame)?;
@@ -39,10 +41,13 @@ pub(crate) fn count_more(
     Ok(())
 }
 
-/// Counts so many fewer of a frame, which goes where none is left. It takes back what `count_more` did.
+/// Counts so many fewer of a frame, which goes where none is left. It takes back what `count_more`
+/// did.
 pub(crate) fn count_fewer(entries: &mut BTreeMap<FrameBytes, u32>, frame: &FrameBytes, count: u32)
-    ensures { (before : List Entry) → IsStrictlySortedBy by_bytes (keys_of before) → All (λ n. 1 ≤ n) (values_of before) →
-        entries.old.entries ≡ entries_sum before ((frame.now, count) ∷ []) → entries.new.entries ≡ before }
+    ensures { (before : List Entry) → IsStrictlySortedBy by_bytes (keys_of before) →
+        All (λ n. 1 ≤ n) (values_of before) →
+        entries.old.entries ≡ entries_sum before ((frame.now, count) ∷ []) →
+        entries.new.entries ≡ before }
 {
     let have = entries.get(frame).copied().unwrap_or(0);
     if have == count {

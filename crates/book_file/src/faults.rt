@@ -23,9 +23,11 @@ pub(crate) fn bad(kind: BookKind, at: u64, used: u64) -> NextBookError
 
 /// Goes on behind a field with which nothing is wrong.
 pub(crate) fn judge(wrong: Option<BookKind>, at: u64, end: u64) -> Result<(), NextBookError>
-    ensures fine { (format : Format) (left : Option (List ℕ)) (bytes : List ℕ) → IsJudged wrong format at end left bytes →
+    ensures fine { (format : Format) (left : Option (List ℕ)) (bytes : List ℕ) →
+        IsJudged wrong format at end left bytes →
         OnOk result (Stands format end left bytes) }
-    ensures fault { (format : Format) (left : Option (List ℕ)) (bytes : List ℕ) → IsJudged wrong format at end left bytes →
+    ensures fault { (format : Format) (left : Option (List ℕ)) (bytes : List ℕ) →
+        IsJudged wrong format at end left bytes →
         IfErr result (IsFault left bytes) }
     ensures judged { OnOk result (wrong ≡ None) }
     ensures unread { result ≢ Err NextBookError.Read }

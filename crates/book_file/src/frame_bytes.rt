@@ -10,8 +10,8 @@ use std::alloc::Global;
 use std::cmp::Ordering;
 use std::marker::Model;
 
-/// The bytes of a frame, in the order of lists of bytes: the first byte that differs decides, and a proper prefix comes
-/// first.
+/// The bytes of a frame, in the order of lists of bytes: the first byte that differs decides, and a
+/// proper prefix comes first.
 #[derive(Debug, Drop)]
 pub struct FrameBytes {
     items: Vec<u8>,

@@ -19,10 +19,12 @@ use crate::limits::HEADER_BYTES;
 use star_io::{Source, fill};
 use std::alloc::Global;
 
-/// Takes the next book from a source, or answers `None` at the end. It holds the book and one entry of it at a time.
+/// Takes the next book from a source, or answers `None` at the end. It holds the book and one entry
+/// of it at a time.
 ///
-/// A book is taken whole, however the source cuts its bytes, and nothing after it. Of bytes that don't begin with one
-/// nothing behind the faulty field is taken. What is left where a read fails or memory runs out is not said.
+/// A book is taken whole, however the source cuts its bytes, and nothing after it. Of bytes that
+/// don't begin with one nothing behind the faulty field is taken. What is left where a read fails
+/// or memory runs out is not said.
 pub fn next_book<S: Source>(
     alloc: Global,
     source: &mut S,
@@ -76,7 +78,8 @@ fn read_field<const N: usize, S: Source>(source: &mut S, at: u64) -> Result<[u8;
     requires { at + N < 2 ^ 64 }
     ensures next { (bytes : List ℕ) (fault : List ℕ → Option BookKind) (next : List ℕ → Format) →
         Stands (Field N fault next) at (S.left source.old) bytes →
-        IfOk result (λ field. IsJudged (fault field) (next field) at (at + N) (S.left source.new) bytes) }
+        IfOk result (λ field. IsJudged (fault field) (next field) at (at + N) (S.left source.new)
+        bytes) }
     ensures fault { (bytes : List ℕ) (fault : List ℕ → Option BookKind) (next : List ℕ → Format) →
         Stands (Field N fault next) at (S.left source.old) bytes →
         IfErr result (IsFault (S.left source.new) bytes) }
@@ -102,7 +105,8 @@ fn read_bytes<S: Source>(
     requires { at + size < 2 ^ 64 }
     ensures next { (bytes : List ℕ) (fault : List ℕ → Option BookKind) (next : List ℕ → Format) →
         Stands (Field size fault next) at (S.left source.old) bytes →
-        IfOk result (λ field. IsJudged (fault field.items) (next field.items) at (at + size) (S.left source.new) bytes) }
+        IfOk result (λ field. IsJudged (fault field.items) (next field.items) at (at + size)
+        (S.left source.new) bytes) }
     ensures fault { (bytes : List ℕ) (fault : List ℕ → Option BookKind) (next : List ℕ → Format) →
         Stands (Field size fault next) at (S.left source.old) bytes →
         IfErr result (IsFault (S.left source.new) bytes) }
@@ -121,7 +125,8 @@ fn read_bytes<S: Source>(
 // Takes what stands between the magic and the entries: the book with no entries, and their number.
 fn read_header<S: Source>(alloc: Global, source: &mut S) -> Result<(RowBook, u32), NextBookError>
     ensures next { (bytes : List ℕ) → Stands header_format 8 (S.left source.old) bytes →
-        IfOk result (λ found. Stands (entries_format found.1 found.0) HEADER_BYTES (S.left source.new) bytes) }
+        IfOk result (λ found. Stands (entries_format found.1 found.0) HEADER_BYTES
+        (S.left source.new) bytes) }
     ensures fault { (bytes : List ℕ) → Stands header_format 8 (S.left source.old) bytes →
         IfErr result (IsFault (S.left source.new) bytes) }
     ensures read { IsErrOf result NextBookError.Read →
@@ -148,9 +153,11 @@ fn read_entry<S: Source>(
     at: u64,
 ) -> Result<u64, NextBookError>
     requires { at + 65541 < 2 ^ 64 }
-    ensures next { (bytes : List ℕ) (n : ℕ) → Stands (entries_format (suc n) book.old) at (S.left source.old) bytes →
+    ensures next { (bytes : List ℕ) (n : ℕ) →
+        Stands (entries_format (suc n) book.old) at (S.left source.old) bytes →
         IfOk result (λ end. Stands (entries_format n book.new) end (S.left source.new) bytes) }
-    ensures fault { (bytes : List ℕ) (n : ℕ) → Stands (entries_format (suc n) book.old) at (S.left source.old) bytes →
+    ensures fault { (bytes : List ℕ) (n : ℕ) →
+        Stands (entries_format (suc n) book.old) at (S.left source.old) bytes →
         IfErr result (IsFault (S.left source.new) bytes) }
     ensures end { IfOk result (λ end. end ≤ at + 65541) }
     ensures read { IsErrOf result NextBookError.Read →

@@ -1,4 +1,5 @@
-//! Laws of books. Each function does nothing: its clause is a fact about the definitions that the other contracts cite.
+//! Laws of books. Each function does nothing: its clause is a fact about the definitions that the
+//! other contracts cite.
 ghost use Rattle.std.specs.Prelude.{◌≡◌, ◌++◌, ℕ, List, Ok, Err, length, codes};
 ghost use Rattle.book_file.specs.declared.book_kind.BookKind.{BookKind};
 ghost use Rattle.book_file.specs.declared.book_error.BadBook.{BadBook};
@@ -23,7 +24,8 @@ pub fn limits()
 
 /// The sum of two books is the book of all their records, and that in either order.
 pub fn books_add()
-    ensures sum { (e : ℕ) (xs ys : List Record) → sum_of (book_of e xs) (book_of e ys) ≡ book_of e (xs ++ ys) }
+    ensures sum { (e : ℕ) (xs ys : List Record) → sum_of (book_of e xs) (book_of e ys)
+        ≡ book_of e (xs ++ ys) }
     ensures turned { (e : ℕ) (xs ys : List Record) → book_of e (xs ++ ys) ≡ book_of e (ys ++ xs) }
 {}
 
@@ -42,12 +44,15 @@ pub fn spelling_is_read()
 /// Bytes that are read as a book begin with its spelling.
 pub fn read_is_spelling()
     ensures { (bytes : List ℕ) (found : ReadBook) → AreBytes bytes → read_of bytes ≡ Ok found →
-        (rest : List ℕ) × Begins found.book bytes rest × (found.used ≡ length (spelling found.book)) }
+        (rest : List ℕ) × Begins found.book bytes rest
+        × (found.used ≡ length (spelling found.book)) }
 {}
 
-/// Bytes that are read as no book have the fault that reading names, and no other; bytes that are read as one have none.
+/// Bytes that are read as no book have the fault that reading names, and no other; bytes that are
+/// read as one have none.
 pub fn one_fault()
-    ensures told { (bytes : List ℕ) (bad : BadBook) → read_of bytes ≡ Err bad → FaultAt bytes bad.kind bad.at }
+    ensures told { (bytes : List ℕ) (bad : BadBook) → read_of bytes ≡ Err bad →
+        FaultAt bytes bad.kind bad.at }
     ensures only { (bytes : List ℕ) (bad : BadBook) → read_of bytes ≡ Err bad →
         (kind : BookKind) (at : ℕ) → FaultAt bytes kind at → (bad.kind ≡ kind) × (bad.at ≡ at) }
     ensures none { (bytes : List ℕ) (found : ReadBook) → read_of bytes ≡ Ok found →

@@ -1,9 +1,9 @@
 //! Partial books: what one aggregator received for an epoch, as one canonical file.
 //!
-//! A [`RowBook`] has each frame of its epoch and of level 0 with the number of records that were it, and the number of
-//! the other records. Books are added, in any order and any grouping, and the sum is the book of all records together.
-//! Each book has one spelling ([`RowBook::to_bytes`]); [`read_book`] reads it back, and [`next_book`] reads books from a
-//! source, one after the other.
+//! A [`RowBook`] has each frame of its epoch and of level 0 with the number of records that were
+//! it, and the number of the other records. Books are added, in any order and any grouping, and the
+//! sum is the book of all records together. Each book has one spelling ([`RowBook::to_bytes`]);
+//! [`read_book`] reads it back, and [`next_book`] reads books from a source, one after the other.
 #![tactic(auto)]
 
 mod absorbing;

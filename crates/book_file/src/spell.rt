@@ -7,9 +7,10 @@ use crate::limits::{BOOK_MAGIC, BOOK_VERSION};
 use star_io::NoMemory;
 
 impl RowBook {
-    /// The one spelling of the book: `STARBOOK`, the byte 1, the epoch, the number of dropped records and the number of
-    /// entries, and then each entry: its count, the length of its frame in two bytes, and the frame. Numbers are
-    /// big-endian, of four bytes where nothing else is said.
+    /// The one spelling of the book: `STARBOOK`, the byte 1, the epoch, the number of dropped
+    /// records and the number of entries, and then each entry: its count, the length of its frame
+    /// in two bytes, and the frame. Numbers are big-endian, of four bytes where nothing else is
+    /// said.
     pub fn to_bytes(&self) -> Result<Vec<u8>, NoMemory>
         ensures { IfOk result (λ bytes. bytes.items ≡ spelling self.now) }
     {

@@ -9,8 +9,9 @@ const EMPTY: [u8; 21] = *b"STARBOOK\x01\x00\x00\x00\x01\x00\x00\x00\x00\x00\x00\
 // What stands before the entries of a book of epoch 1 that dropped no record and has two entries.
 const HEAD: [u8; 21] = *b"STARBOOK\x01\x00\x00\x00\x01\x00\x00\x00\x00\x00\x00\x00\x02";
 
-// The frames of the reports of clients 0 and 1 with the value `red`, the threshold 2, epoch 1 and a seed of zeros. These are
-// the bytes of an implementation in Python with hashlib and plain integers.
+// The frames of the reports of clients 0 and 1 with the value `red`, the threshold 2, epoch 1 and a
+// seed of zeros. These are the bytes of an implementation in Python with hashlib and plain
+// integers.
 const FIRST: [u8; 141] = [
     0x53, 0x54, 0x01, 0x00, 0x00, 0x00, 0x00, 0x01, 0x00, 0x02, 0x06, 0xb8, 0xe0, 0xad, 0xa0, 0xf1,
     0x3d, 0x91, 0x0b, 0x79, 0xc5, 0x9d, 0x12, 0x73, 0x28, 0x79, 0x08, 0x81, 0xd8, 0xd7, 0xcf, 0x3f,

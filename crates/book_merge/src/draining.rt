@@ -10,9 +10,11 @@ const SCRAP: usize = 65536;
 /// Whether at most `room` bytes are left. They are dropped, and of others one.
 pub(crate) fn ends_within<S: Source>(input: &mut S, room: u64) -> Result<bool, Failed>
     requires { room < 2 ^ 63 }
-    ensures end { IfOk result (λ ends. ends ≡ true → (bytes : List ℕ) → S.left input.old ≡ Some bytes →
+    ensures end { IfOk result (λ ends. ends ≡ true → (bytes : List ℕ) →
+        S.left input.old ≡ Some bytes →
         (length bytes ≤ room) × (S.left input.new ≡ Some [])) }
-    ensures more { IfOk result (λ ends. ends ≡ false → (bytes : List ℕ) → S.left input.old ≡ Some bytes →
+    ensures more { IfOk result (λ ends. ends ≡ false → (bytes : List ℕ) →
+        S.left input.old ≡ Some bytes →
         (room < length bytes) × (S.left input.new ≡ Some (drop (room + 1) bytes))) }
     ensures cause { HasCause (S.faults input.old) (S.faults input.new) result }
 {

@@ -23,10 +23,13 @@ pub fn book_reveals()
 pub fn merge_means()
     ensures sum { (e : ℕ) (bytes : List ℕ) (total : Book) → AreBytes bytes →
         (merged e bytes ≡ Ok total) ↔ IsSumOf e bytes total }
-    ensures bad_book { (e : ℕ) (bytes : List ℕ) (number : ℕ) (kind : BookKind) (at : ℕ) → AreBytes bytes →
-        (merged e bytes ≡ Err (MergeFault.BadBook number kind at)) ↔ HasBadBook e bytes number kind at }
+    ensures bad_book { (e : ℕ) (bytes : List ℕ) (number : ℕ) (kind : BookKind) (at : ℕ) →
+        AreBytes bytes →
+        (merged e bytes ≡ Err (MergeFault.BadBook number kind at))
+        ↔ HasBadBook e bytes number kind at }
     ensures other_epoch { (e : ℕ) (bytes : List ℕ) (number have : ℕ) → AreBytes bytes →
-        (merged e bytes ≡ Err (MergeFault.BookEpoch number have)) ↔ HasOtherEpoch e bytes number have }
+        (merged e bytes ≡ Err (MergeFault.BookEpoch number have))
+        ↔ HasOtherEpoch e bytes number have }
     ensures too_many { (e : ℕ) (bytes : List ℕ) → AreBytes bytes →
         (merged e bytes ≡ Err MergeFault.TooMany) ↔ HasTooMuch e bytes }
 {}

@@ -1,5 +1,5 @@
-//! The books of several aggregators as one: their sum, whatever stands behind it, and the records that it
-//! stands for.
+//! The books of several aggregators as one: their sum, whatever stands behind it, and the records
+//! that it stands for.
 //!
 //! [`read_sum`] reads books one behind the other, and holds their sum and one book at a time.
 //! [`records_of`] gives the records of a book. `laws` has what a book reveals.

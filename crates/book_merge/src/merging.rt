@@ -11,11 +11,12 @@ use book_file::{BadBook, NextBookError, RowBook, absorb, next_book};
 use star_io::{Failed, MAX_RECORDS, NoMemory, Source};
 use std::alloc::Global;
 
-/// The sum of the books of an epoch that an input has, one behind the other. No book gives the empty one.
+/// The sum of the books of an epoch that an input has, one behind the other. No book gives the
+/// empty one.
 ///
-/// Their sum and one book are held at a time. What is wrong with a book is kept, and told once the input was
-/// read to its end, or to a byte behind the first 1,074,549,760: so a failed read and too many bytes come
-/// before it. Of what is wrong with books the first is told.
+/// Their sum and one book are held at a time. What is wrong with a book is kept, and told once the
+/// input was read to its end, or to a byte behind the first 1,074,549,760: so a failed read and too
+/// many bytes come before it. Of what is wrong with books the first is told.
 pub fn read_sum<S: Source>(alloc: Global, epoch: u32, input: &mut S) -> Result<RowBook, MergeError>
     ensures sum { IfOk result (IsSum epoch (S.left input.old) (S.left input.new)) }
     ensures epoch { IfOk result (λ sum. sum.epoch ≡ epoch) }

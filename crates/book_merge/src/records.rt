@@ -1,3 +1,4 @@
+// The records that a book stands for.
 ghost use Rattle.std.specs.Prelude.{◌≡◌, ◌++◌, IfOk, OnOk, replicate};
 ghost use Rattle.star_io.specs.declared.record.Record.TheVariants.{Whole};
 ghost use Rattle.book_merge.specs.Records.{records_of};

@@ -39,7 +39,8 @@ fn a_book_and_itself_give_each_record_twice(rt: HostRuntime) -> Result<(), Fail>
     Ok(())
 }
 
-// Behind a bad book the input is read to its end before that is told, and a read that fails there is told instead.
+// Behind a bad book the input is read to its end before that is told, and a read that fails there
+// is told instead.
 #[test]
 fn a_later_failed_read_comes_before_a_bad_book(rt: HostRuntime) -> Result<(), Fail> {
     let alloc = rt.alloc();

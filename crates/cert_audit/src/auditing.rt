@@ -20,7 +20,8 @@ pub fn audit(cert: &Cert) -> Verdict
     requires { IsCert cert.now }
     ensures verdict { result ≡ verdict_of cert.now }
     // No other polynomials would show another outcome of these points.
-    ensures sound { (value : List ℕ) (agree : ℕ) → result ≡ Yes value agree → Opens cert.now value agree }
+    ensures sound { (value : List ℕ) (agree : ℕ) → result ≡ Yes value agree →
+        Opens cert.now value agree }
 {
     know_cert(cert);
     let points = cert.points.as_slice();

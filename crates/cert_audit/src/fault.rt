@@ -12,7 +12,8 @@ pub struct CertFault {
 /// Why no certificate was read.
 #[derive(Clone, Copy, Debug, PartialEq, Eq)]
 pub enum CertError {
-    /// The bytes begin with none: the first faulty field, and where it starts, in bytes from the front.
+    /// The bytes begin with none: the first faulty field, and where it starts, in bytes from the
+    /// front.
     Bad { kind: CertKind, at: u64 },
     /// Memory ran out.
     NoMemory,

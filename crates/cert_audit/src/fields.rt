@@ -48,7 +48,8 @@ pub(crate) fn read_u8(
     low: u8,
     high: u8,
 ) -> Result<(u8, &[u8]), CertFault>
-    ensures found { Gives (λ x. (x.0, x.1.now)) result (number_at OneByte kind low high at bytes.now) }
+    ensures found { Gives (λ x.
+        (x.0, x.1.now)) result (number_at OneByte kind low high at bytes.now) }
     ensures low { IfOk result (λ x. low ≤ x.0) }
     ensures high { IfOk result (λ x. x.0 ≤ high) }
 {
@@ -103,7 +104,8 @@ pub(crate) fn read_u64(
     low: u64,
     high: u64,
 ) -> Result<(u64, &[u8]), CertFault>
-    ensures found { Gives (λ x. (x.0, x.1.now)) result (number_at EightBytes kind low high at bytes.now) }
+    ensures found { Gives (λ x.
+        (x.0, x.1.now)) result (number_at EightBytes kind low high at bytes.now) }
     ensures low { IfOk result (λ x. low ≤ x.0) }
     ensures high { IfOk result (λ x. x.0 ≤ high) }
     ensures long { IfOk result (λ _. 8 ≤ length bytes.now) }
@@ -121,7 +123,8 @@ pub(crate) fn read_u64(
 
 /// A field number that isn't below `low`.
 pub(crate) fn read_element(bytes: &[u8], at: u64, low: u64) -> Result<(u64, &[u8]), CertFault>
-    ensures found { Gives (λ x. (x.0, x.1.now)) result (number_at EightBytes Range low (MODULUS - 1) at bytes.now) }
+    ensures found { Gives (λ x.
+        (x.0, x.1.now)) result (number_at EightBytes Range low (MODULUS - 1) at bytes.now) }
     ensures below { IfOk result (λ x. x.0 < MODULUS) }
     ensures long { IfOk result (λ _. 8 ≤ length bytes.now) }
     ensures rest { IfOk result (λ x. x.1.now ≡ drop 8 bytes.now) }

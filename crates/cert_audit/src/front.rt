@@ -62,7 +62,8 @@ pub(crate) struct Front<'a> {
 #[tactic(auto, unfolding(crate::specs::Reading::read))]
 pub(crate) fn read_front(bytes: &[u8]) -> Result<Front<'_>, CertFault>
     ensures ok { IfOk result (λ f. read certificate 0 [] bytes.now
-        ≡ read (points_layout f.points 0 (numbers_layout (3 * f.start.k))) f.at (entries_of_front f) f.rest.now) }
+        ≡ read (points_layout f.points 0 (numbers_layout (3 * f.start.k))) f.at (entries_of_front f)
+        f.rest.now) }
     ensures fault { IfErr result (λ e. read certificate 0 [] bytes.now ≡ Err e) }
     ensures box_low { IfOk result (λ f. 1 ≤ length f.boxed.now) }
     ensures box_high { IfOk result (λ f. length f.boxed.now ≤ MAX_VALUE) }
@@ -101,9 +102,12 @@ fn read_version(bytes: &[u8]) -> Result<(Version, &[u8]), CertFault>
 // The fields behind the threshold up to the number of points.
 #[tactic(auto, unfolding(crate::specs::Reading::read))]
 fn read_behind(start: Start, bytes: &[u8]) -> Result<Front<'_>, CertFault>
-    ensures ok { IfOk result (λ f. read (behind_threshold start.k) PARENT_AT (entries_of_start start) bytes.now
-        ≡ read (points_layout f.points 0 (numbers_layout (3 * f.start.k))) f.at (entries_of_front f) f.rest.now) }
-    ensures fault { IfErr result (λ e. read (behind_threshold start.k) PARENT_AT (entries_of_start start) bytes.now ≡ Err e) }
+    ensures ok { IfOk result (λ f.
+        read (behind_threshold start.k) PARENT_AT (entries_of_start start) bytes.now
+        ≡ read (points_layout f.points 0 (numbers_layout (3 * f.start.k))) f.at (entries_of_front f)
+        f.rest.now) }
+    ensures fault { IfErr result (λ e.
+        read (behind_threshold start.k) PARENT_AT (entries_of_start start) bytes.now ≡ Err e) }
     ensures box_low { IfOk result (λ f. 1 ≤ length f.boxed.now) }
     ensures box_high { IfOk result (λ f. length f.boxed.now ≤ MAX_VALUE) }
     ensures place { IfOk result (λ f. f.at ≤ 200) }

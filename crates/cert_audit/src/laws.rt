@@ -1,5 +1,5 @@
-//! Laws of certificates. Each function does nothing: its clause is a fact about the definitions that
-//! the other contracts cite.
+//! Laws of certificates. Each function does nothing: its clause is a fact about the definitions
+//! that the other contracts cite.
 ghost use Rattle.std.specs.Prelude.{◌≡◌, ◌⊎◌, ◌↔◌, ◌++◌, ◌≤◌, ℕ, List, length, Ok, Err, Some};
 ghost use Rattle.star_io.specs.Bytes.{AreBytes};
 ghost use Rattle.shamir_limbs.specs.KeyLine.{IsKeyLine};
@@ -23,7 +23,8 @@ pub fn limits()
 /// No certificate's bytes are those of another one, or begin with them.
 #[tactic(auto, using(crate::proofs::CertLaws::no_prefix))]
 pub fn no_prefix()
-    ensures { (c d : Cert) (more other : List ℕ) → InRange c → InRange d → cert_spelling c ++ more ≡ cert_spelling d ++ other → c ≡ d }
+    ensures { (c d : Cert) (more other : List ℕ) → InRange c → InRange d →
+        cert_spelling c ++ more ≡ cert_spelling d ++ other → c ≡ d }
 {}
 
 /// Bytes begin with one certificate, or they have one fault, and never both.
@@ -34,18 +35,21 @@ pub fn cert_or_fault()
 
 /// Reading the fields in turn gives a certificate exactly where the bytes begin with it.
 pub fn reading_cert()
-    ensures { (bytes : List ℕ) (r : ReadCert) → AreBytes bytes → (reading bytes ≡ Ok r) ↔ BeginsWith r.cert r.used bytes }
+    ensures { (bytes : List ℕ) (r : ReadCert) → AreBytes bytes → (reading bytes ≡ Ok r)
+        ↔ BeginsWith r.cert r.used bytes }
 {}
 
 /// Reading the fields in turn gives a fault exactly where it is the fault of the bytes.
 pub fn reading_fault()
-    ensures { (bytes : List ℕ) (fault : CertFault) → AreBytes bytes → (reading bytes ≡ Err fault) ↔ FaultAt bytes fault.kind fault.at }
+    ensures { (bytes : List ℕ) (fault : CertFault) → AreBytes bytes → (reading bytes ≡ Err fault)
+        ↔ FaultAt bytes fault.kind fault.at }
 {}
 
 /// A certificate with the verdict Yes gives what its points and its head open to, whoever made it.
 #[tactic(auto, using(crate::proofs::Sound::audit_sound))]
 pub fn audit_sound()
-    ensures { (c : Cert) (value : List ℕ) (agree : ℕ) → InRange c → verdict_of c ≡ Yes value agree → Opens c value agree }
+    ensures { (c : Cert) (value : List ℕ) (agree : ℕ) → InRange c → verdict_of c ≡ Yes value agree →
+        Opens c value agree }
 {}
 
 /// Polynomials on which enough of the points lie, and whose key opens the head, have the verdict

@@ -23,9 +23,11 @@ pub(crate) fn read_points(
     requires empty { points.items ≡ [] }
     requires room { n ≤ vec_capacity points }
     requires place { at < 2 ^ 32 }
-    ensures ok { IfOk result (λ made. (next : Layout) (before : List Entry) → read (points_layout n 0 next) at before bytes.now
+    ensures ok { IfOk result (λ made. (next : Layout) (before : List Entry) →
+        read (points_layout n 0 next) at before bytes.now
         ≡ read next (at + 32 * n) (before ++ point_entries made.items) (drop (32 * n) bytes.now)) }
-    ensures fault { IfErr result (λ e. (next : Layout) (before : List Entry) → read (points_layout n 0 next) at before bytes.now ≡ Err e) }
+    ensures fault { IfErr result (λ e. (next : Layout) (before : List Entry) →
+        read (points_layout n 0 next) at before bytes.now ≡ Err e) }
     ensures many { IfOk result (λ made. length made.items ≡ n) }
     ensures three { IfOk result (λ made. All (λ p. length p.y ≡ 3) made.items) }
     ensures long { IfOk result (λ _. 32 * n ≤ length bytes.now) }
@@ -46,9 +48,12 @@ pub(crate) fn read_points(
 fn read_four(bytes: &[u8], at: u64, above: u64) -> Result<([u64; 4], &[u8]), CertFault>
     requires above { above < MODULUS }
     requires place { at < 2 ^ 60 }
-    ensures ok { IfOk result (λ x. (n : ℕ) (next : Layout) (before : List Entry) → read (points_layout (suc n) above next) at before bytes.now
-        ≡ read (points_layout n (point_of x.0).x next) (at + 32) (before ++ entries_of_point (point_of x.0)) x.1.now) }
-    ensures fault { IfErr result (λ e. (n : ℕ) (next : Layout) (before : List Entry) → read (points_layout (suc n) above next) at before bytes.now ≡ Err e) }
+    ensures ok { IfOk result (λ x. (n : ℕ) (next : Layout) (before : List Entry) →
+        read (points_layout (suc n) above next) at before bytes.now
+        ≡ read (points_layout n (point_of x.0).x next) (at + 32) (before
+        ++ entries_of_point (point_of x.0)) x.1.now) }
+    ensures fault { IfErr result (λ e. (n : ℕ) (next : Layout) (before : List Entry) →
+        read (points_layout (suc n) above next) at before bytes.now ≡ Err e) }
     ensures below { IfOk result (λ x. (i : ℕ) → slice_index x.0 i < MODULUS) }
     ensures long { IfOk result (λ _. 32 ≤ length bytes.now) }
     ensures rest { IfOk result (λ x. x.1.now ≡ drop 32 bytes.now) }
@@ -83,9 +88,11 @@ pub(crate) fn read_numbers(
     requires empty { numbers.items ≡ [] }
     requires room { n ≤ vec_capacity numbers }
     requires place { at < 2 ^ 40 }
-    ensures ok { IfOk result (λ made. (before : List Entry) → read (numbers_layout n) at before bytes.now
+    ensures ok { IfOk result (λ made. (before : List Entry) →
+        read (numbers_layout n) at before bytes.now
         ≡ Ok (before ++ number_entries made.items, at + 8 * n)) }
-    ensures fault { IfErr result (λ e. (before : List Entry) → read (numbers_layout n) at before bytes.now ≡ Err e) }
+    ensures fault { IfErr result (λ e. (before : List Entry) →
+        read (numbers_layout n) at before bytes.now ≡ Err e) }
 {
     let mut rest = bytes;
     for i in 0..n {

@@ -1,5 +1,5 @@
-// What the types of a certificate's fields say of their values. These functions do nothing when they run: their clauses
-// make known what a caller need not state.
+// What the types of a certificate's fields say of their values. These functions do nothing when
+// they run: their clauses make known what a caller need not state.
 ghost use Rattle.std.specs.Prelude.{◌≡◌, ◌≤◌, length, All};
 ghost use Rattle.report_frame.specs.declared.limits.TheConstants.{MAX_VALUE};
 ghost use Rattle.cert_audit.specs.Certificate.{IsCert, IsPoint, InRange};

@@ -18,7 +18,8 @@ pub fn cert_bytes(alloc: Global, cert: &Cert) -> Result<Vec<u8>, NoMemory>
     requires { IsCert cert.now }
     ensures spelt { IfOk result (λ bytes. bytes.items ≡ cert_spelling cert.now) }
     // What reads it back gives the same certificate.
-    ensures read { IfOk result (λ bytes. reading bytes.items ≡ Ok (record { cert = cert.now; used = length bytes.items })) }
+    ensures read { IfOk result (λ bytes. reading bytes.items
+        ≡ Ok (record { cert = cert.now; used = length bytes.items })) }
 {
     know_cert(cert);
     let mut bytes = spell_front(alloc, cert)?;
@@ -43,7 +44,8 @@ fn spell_front(alloc: Global, cert: &Cert) -> Result<Vec<u8>, NoMemory>
 
 // Puts the fields up to the threshold behind the bytes.
 fn spell_start(bytes: &mut Vec<u8>, cert: &Cert) -> Result<(), NoMemory>
-    ensures { OnOk result (bytes.new.items ≡ bytes.old.items ++ spelling certificate (start_entries cert.now)) }
+    ensures { OnOk result (bytes.new.items
+        ≡ bytes.old.items ++ spelling certificate (start_entries cert.now)) }
 {
     bytes.extend_from_slice(&CERT_MAGIC.to_be_bytes())?;
     spell_byte(bytes, CERT_FORMAT)?;
@@ -57,7 +59,8 @@ fn spell_start(bytes: &mut Vec<u8>, cert: &Cert) -> Result<(), NoMemory>
 // Puts the fields behind the threshold up to the number of points behind the bytes.
 fn spell_head(bytes: &mut Vec<u8>, cert: &Cert) -> Result<(), NoMemory>
     requires { IsCert cert.now }
-    ensures { OnOk result (bytes.new.items ≡ bytes.old.items ++ spelling (behind_threshold cert.now.head.k) (head_entries cert.now)) }
+    ensures { OnOk result (bytes.new.items
+        ≡ bytes.old.items ++ spelling (behind_threshold cert.now.head.k) (head_entries cert.now)) }
 {
     let boxed = cert.head.boxed.as_slice();
     let points = cert.points.as_slice().len() as u32;

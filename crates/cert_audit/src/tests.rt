@@ -3,8 +3,9 @@ use report_frame::Value;
 use std::alloc::Global;
 use std::test::Fail;
 
-// The certificate of the reports of clients 0 and 1 with the value `red`, the threshold 2, epoch 1 and a seed of zeros. These
-// are the bytes of an implementation in Python with hashlib and plain integers.
+// The certificate of the reports of clients 0 and 1 with the value `red`, the threshold 2, epoch 1
+// and a seed of zeros. These are the bytes of an implementation in Python with hashlib and plain
+// integers.
 const RED: [u8; 217] = [
     0x53, 0x54, 0x41, 0x52, 0x43, 0x45, 0x52, 0x54, 0x01, 0x01, 0x00, 0x00, 0x00, 0x00, 0x01, 0x00,
     0x02, 0x00, 0x00, 0x00, 0x00, 0x00, 0x00, 0x00, 0x00, 0x00, 0x00, 0x00, 0x00, 0x00, 0x00, 0x00,

@@ -8,7 +8,8 @@ ghost use Rattle.chacha_stream.specs.Keystream.{keystream, xor_bytes};
 /// The keystream has as many bytes as are asked for.
 #[tactic(auto, using(crate::proofs::StreamLaws::keystream_length))]
 pub fn keystream_length()
-    ensures { (key nonce : List ℕ) (counter start n : ℕ) → length (keystream key nonce counter start n) ≡ n }
+    ensures { (key nonce : List ℕ) (counter start n : ℕ) →
+        length (keystream key nonce counter start n) ≡ n }
 {}
 
 /// The exclusive or has as many bytes as the first list.
@@ -27,19 +28,22 @@ pub fn twice()
 #[tactic(auto, using(crate::proofs::StreamLaws::later_block))]
 pub fn later_block()
     ensures { (key nonce : List ℕ) (counter blocks start n : ℕ) →
-        keystream key nonce (counter + blocks) start n ≡ keystream key nonce counter (64 * blocks + start) n }
+        keystream key nonce (counter + blocks) start n
+        ≡ keystream key nonce counter (64 * blocks + start) n }
 {}
 
 /// The keystream, split at any byte.
 #[tactic(auto, using(crate::proofs::StreamLaws::split))]
 pub fn split()
     ensures { (key nonce : List ℕ) (counter start m n : ℕ) →
-        keystream key nonce counter start (m + n) ≡ keystream key nonce counter start m ++ keystream key nonce counter (start + m) n }
+        keystream key nonce counter start (m + n) ≡ keystream key nonce counter start m
+        ++ keystream key nonce counter (start + m) n }
 {}
 
 /// Over zeros the exclusive or is the keystream itself.
 #[tactic(auto, using(crate::proofs::StreamLaws::over_zeros))]
 pub fn over_zeros()
     ensures { (key nonce : List ℕ) (counter start n : ℕ) →
-        xor_bytes (replicate n 0) (keystream key nonce counter start n) ≡ keystream key nonce counter start n }
+        xor_bytes (replicate n 0) (keystream key nonce counter start n)
+        ≡ keystream key nonce counter start n }
 {}

@@ -11,7 +11,8 @@ use rand_core::utils::NextWord;
 /// says that the keystream doesn't run past the last one, number 2^32 - 1.
 pub fn xor_stream(key: &[u8; 32], nonce: &[u8; 12], counter: u32, bytes: &mut [u8])
     requires { 64 * counter + length bytes.old ≤ 2 ^ 38 }
-    ensures { bytes.new ≡ xor_bytes bytes.old (keystream key.now nonce.now counter 0 (length bytes.old)) }
+    ensures { bytes.new ≡ xor_bytes bytes.old
+        (keystream key.now nonce.now counter 0 (length bytes.old)) }
 {
     let mut words = generator(key, nonce, counter);
     let whole = bytes.len() / 4;

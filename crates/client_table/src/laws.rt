@@ -27,15 +27,20 @@ pub fn one_outcome()
 
 /// The first bad place is one place.
 pub fn one_place()
-    ensures { (version : Version) (width row column other_row other_column : ℕ) (rows : List (List (List ℕ))) →
-        IsBadTable version width rows row column → IsBadTable version width rows other_row other_column →
+    ensures { (version : Version) (width row column other_row other_column : ℕ)
+        (rows : List (List (List ℕ))) →
+        IsBadTable version width rows row column →
+        IsBadTable version width rows other_row other_column →
         (row ≡ other_row) × (column ≡ other_column) }
 {}
 
 /// The function that looks for the first bad place finds it, and finds none in a table alone.
 pub fn first_bad_place()
-    ensures found { (version : Version) (width row column : ℕ) (rows : List (List (List ℕ))) → length rows ≤ MAX_ROWS →
-        (bad_place version width rows ≡ Some (row, column)) ↔ IsBadTable version width rows row column }
-    ensures none { (version : Version) (width : ℕ) (rows : List (List (List ℕ))) → length rows ≤ MAX_ROWS →
+    ensures found { (version : Version) (width row column : ℕ) (rows : List (List (List ℕ))) →
+        length rows ≤ MAX_ROWS →
+        (bad_place version width rows ≡ Some (row, column))
+        ↔ IsBadTable version width rows row column }
+    ensures none { (version : Version) (width : ℕ) (rows : List (List (List ℕ))) →
+        length rows ≤ MAX_ROWS →
         (bad_place version width rows ≡ None) ↔ IsTable version width rows }
 {}

@@ -1,4 +1,5 @@
-//! Reading the tables of clients, rows of values and in version 2 of extra bytes, as comma-separated text.
+//! Reading the tables of clients, rows of values and in version 2 of extra bytes, as
+//! comma-separated text.
 #![tactic(auto)]
 
 pub mod laws;

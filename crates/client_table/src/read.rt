@@ -39,8 +39,8 @@ impl From<NoMemory> for TableError {
     }
 }
 
-/// The table of version 1 whose rows are the records of comma-separated text, each with `width` cells of 1 to
-/// 64 bytes.
+/// The table of version 1 whose rows are the records of comma-separated text, each with `width`
+/// cells of 1 to 64 bytes.
 ///
 /// `NoMemory` answers each error of the reader of `csv`, whatever caused it.
 pub fn read_table(alloc: Global, bytes: &[u8], width: usize) -> Result<Table, TableError>

@@ -67,7 +67,8 @@ pub(crate) fn row2_of(
     width: usize,
 ) -> Result<(Vec<Value>, Extra), RowError>
     requires { width ≤ max_layers Two }
-    ensures cells { IfOk result (λ row. (row.0.items, row.1) ≡ row2_of width (fields_of cells.now)) }
+    ensures cells { IfOk result (λ row. (row.0.items, row.1)
+        ≡ row2_of width (fields_of cells.now)) }
     ensures good { IfOk result (λ row. IsRow Two width (fields_of cells.now)) }
     ensures bad { (column : ℕ) → result ≡ Err (RowError.BadAt column)
         → IsFirstBad Two width (fields_of cells.now) column }
@@ -83,7 +84,8 @@ pub(crate) fn row2_of(
     Ok((values, extra))
 }
 
-// The first cells of a record as values. An error names the first of their columns at which the record is bad.
+// The first cells of a record as values. An error names the first of their columns at which the
+// record is bad.
 fn values_of(alloc: Global, cells: &ByteRecord, width: usize) -> Result<Vec<Value>, RowError>
     ensures cells { IfOk result (λ values. values.items ≡ take width (fields_of cells.now)) }
     ensures good { IfOk result (λ values. (version : Version) (k : ℕ) → k < width

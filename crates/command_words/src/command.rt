@@ -44,8 +44,8 @@ pub enum Command {
     },
     /// Computes the vectors of the self test, and prints a line for each.
     SelfTest,
-    /// Reads a table, and prints the groups that the stream of its reports opens, of version 1, where
-    /// these don't come in each other's way.
+    /// Reads a table, and prints the groups that the stream of its reports opens, of version 1,
+    /// where these don't come in each other's way.
     Expect {
         epoch: u32,
         /// One for each column.

@@ -71,7 +71,8 @@ fn verb_command<'a>(
     verb: &'a str,
     names: &[&'a str],
 ) -> Result<Command<'a>, AllocError>
-    ensures { IfOk result (λ command. app_of command ≡ verb_app verb.entry.now (texts_of names.now)) }
+    ensures { IfOk result (λ command. app_of command
+        ≡ verb_app verb.entry.now (texts_of names.now)) }
 {
     let mut command = Command::new(alloc, verb)
         .no_binary_name(true)

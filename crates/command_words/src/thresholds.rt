@@ -1,3 +1,4 @@
+// The thresholds of a command.
 ghost use Rattle.std.specs.Prelude.{◌≡◌, ◌<◌, ◌≤◌, ◌++◌, ◌∷◌, [], length};
 ghost use Rattle.command_words.specs.Thresholds.{thresholds_of};
 ghost use Rattle.report_frame.specs.Versions.{max_layers};

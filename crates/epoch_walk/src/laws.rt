@@ -10,11 +10,14 @@ ghost use Rattle.epoch_walk.specs.Epochs.{section, epochs_told};
 
 /// The section of an epoch is that of its records alone, whatever the others are.
 pub fn epochs_apart()
-    ensures { (records : List Record) (e : ℕ) → filter (λ (told : EpochPart). told.epoch == e) (epochs_told records).parts ≡ section e (part records e) }
+    ensures { (records : List Record) (e : ℕ) →
+        filter (λ (told : EpochPart). told.epoch == e) (epochs_told records).parts
+        ≡ section e (part records e) }
 {}
 
 /// The epochs are those that have a record, in strictly ascending order.
 pub fn epochs_are()
-    ensures there { (records : List Record) (e : ℕ) → Contains (epochs records) e ↔ (0 < length (part records e)) }
+    ensures there { (records : List Record) (e : ℕ) → Contains (epochs records) e
+        ↔ (0 < length (part records e)) }
     ensures rise { (records : List Record) → IsStrictlySortedBy nat_cmp (epochs records) }
 {}

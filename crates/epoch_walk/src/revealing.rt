@@ -15,8 +15,8 @@ use std::alloc::Global;
 use std::collections::BTreeMap;
 use std::thread::Threads;
 
-/// What the records of each epoch tell, one epoch after the other. The groups of each level are opened
-/// by so many workers.
+/// What the records of each epoch tell, one epoch after the other. The groups of each level are
+/// opened by so many workers.
 pub(crate) fn parts_of<R: Threads + Sync, G: Gate>(
     rt: &R,
     alloc: Global,

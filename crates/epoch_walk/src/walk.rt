@@ -38,7 +38,8 @@ impl Model for EpochWalk {
 
     ghost use Rattle.epoch_walk.specs.Standing.{IsEpochWalk};
 
-    ghost invariant = { λ w. IsEpochWalk (record { taken = w.taken; walks = w.walks.entries; strays = w.strays }) };
+    ghost invariant = { λ w.
+        IsEpochWalk (record { taken = w.taken; walks = w.walks.entries; strays = w.strays }) };
 }
 
 impl EpochWalk {
@@ -61,7 +62,8 @@ impl EpochWalk {
     pub fn take(&mut self, item: Record) -> Result<(), NoMemory>
         requires { self.old.taken < MAX_RECORDS }
         ensures taken { OnOk result (self.new.taken ≡ self.old.taken + 1) }
-        ensures stands { OnOk result ((records : List Record) → StandsFor self.old records → StandsFor self.new (records ++ item ∷ [])) }
+        ensures stands { OnOk result ((records : List Record) → StandsFor self.old records →
+            StandsFor self.new (records ++ item ∷ [])) }
         ensures kept { OnErr result (self.new ≡ self.old) }
     {
         let index = self.taken;
@@ -74,7 +76,8 @@ impl EpochWalk {
     }
 
     /// What the records that were taken tell: for each epoch what its reports tell, as if they came
-    /// alone. The groups of each level are opened by so many workers, and each passes the gate first.
+    /// alone. The groups of each level are opened by so many workers, and each passes the gate
+    /// first.
     pub fn finish<R: Threads + Sync, G: Gate>(
         self,
         rt: &R,
@@ -82,7 +85,8 @@ impl EpochWalk {
         gate: &G,
     ) -> Result<EpochsOut, NoMemory>
         requires { (1 ≤ workers) × (workers ≤ MAX_WORKERS) }
-        ensures { (records : List Record) → StandsFor self records → IfOk result (λ told. told ≡ epochs_told records) }
+        ensures { (records : List Record) → StandsFor self records →
+            IfOk result (λ told. told ≡ epochs_told records) }
     {
         let EpochWalk {
             alloc,

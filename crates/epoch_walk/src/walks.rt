@@ -21,9 +21,11 @@ pub(crate) fn hand(
     item: Record,
 ) -> Result<(), NoMemory>
     requires { ForSome (get nat_cmp walks.old epoch) (λ walk. walk.taken < MAX_RECORDS) }
-    ensures here { OnOk result ((records : List Record) → StandsAt epoch (get nat_cmp walks.old epoch) records →
+    ensures here { OnOk result ((records : List Record) →
+        StandsAt epoch (get nat_cmp walks.old epoch) records →
         StandsAt epoch (get nat_cmp walks.new epoch) (records ++ item ∷ [])) }
-    ensures elsewhere { OnOk result ((other : ℕ) → other ≢ epoch → get nat_cmp walks.new other ≡ get nat_cmp walks.old other) }
+    ensures elsewhere { OnOk result ((other : ℕ) → other ≢ epoch →
+        get nat_cmp walks.new other ≡ get nat_cmp walks.old other) }
     ensures ordered { IsOrdered nat_cmp walks.new }
     ensures kept { OnErr result (IsUnchanged walks.old walks.new) }
 {

@@ -1,3 +1,4 @@
+// The elements of the field, and their arithmetic.
 ghost use Rattle.std.specs.Prelude.{◌≡◌, ◌<◌, ◌↔◌, ◌%◌, ℕ, length, slice_index, IsSome, IsNone, IfSome};
 ghost use Rattle.field61.specs.declared.TheConstants.{MODULUS};
 ghost use Rattle.field61.specs.Field.{field_sum, field_difference, field_negative, field_product, field_power, AreElements};
@@ -137,8 +138,8 @@ impl Fe {
     }
 }
 
-/// Makes it known in proofs that each number of a slice is below the modulus. A proof about elements in
-/// a slice has no such bound before this call, and nothing else comes of it.
+/// Makes it known in proofs that each number of a slice is below the modulus. A proof about
+/// elements in a slice has no such bound before this call, and nothing else comes of it.
 pub fn know_elements(elements: &[Fe])
     ensures { AreElements elements.now }
 {

@@ -24,8 +24,8 @@ pub fn fermat()
     ensures { (r a : ℕ) → IsPrime r → (r ∣ a → ⊥) → a ^ (r - 1) % r ≡ 1 }
 {}
 
-/// Pocklington's criterion, by distinct prime divisors of n - 1 whose product is about the root of n
-/// or above it. That the modulus is prime is shown by it.
+/// Pocklington's criterion, by distinct prime divisors of n - 1 whose product is about the root of
+/// n or above it. That the modulus is prime is shown by it.
 pub fn pocklington()
     ensures { (n : ℕ) (qs : List ℕ) → 1 < n → IsDistinct nat_eq qs → All (HasWitness n) qs →
         n < (product_of qs + 1) * (product_of qs + 1) → IsPrime n }
@@ -54,7 +54,8 @@ pub fn no_zero_divisors()
 /// A difference is the remainder of the difference of integers, and the sum with the negative.
 pub fn differences()
     ensures below { (a b : ℕ) → field_difference a b < MODULUS }
-    ensures integer { (a b : ℕ) → pos (field_difference a b) ≡ int_rem_euclid (pos a -ℤ pos b) (pos MODULUS) }
+    ensures integer { (a b : ℕ) →
+        pos (field_difference a b) ≡ int_rem_euclid (pos a -ℤ pos b) (pos MODULUS) }
     ensures sum { (a b : ℕ) → field_difference a b ≡ field_sum a (field_negative b) }
 {}
 

@@ -21,7 +21,8 @@ fn few_products(a: &[Fe], from: usize, b: &[Fe], other: usize, n: usize) -> Fe
     requires few { n ≤ 64 }
     requires first { from + n ≤ length a.now }
     requires second { other + n ≤ length b.now }
-    ensures sum { result ≡ field_total n (λ i. field_product (slice_index a.now (from + i)) (slice_index b.now (other + i))) }
+    ensures sum { result ≡ field_total n (λ i.
+        field_product (slice_index a.now (from + i)) (slice_index b.now (other + i))) }
     ensures below { result < MODULUS }
 {
     let mut total: u128 = 0;
@@ -35,7 +36,8 @@ fn few_products(a: &[Fe], from: usize, b: &[Fe], other: usize, n: usize) -> Fe
 pub fn sum_of_products(a: &[Fe], from: usize, b: &[Fe], other: usize, n: usize) -> Fe
     requires first { from + n ≤ length a.now }
     requires second { other + n ≤ length b.now }
-    ensures sum { result ≡ field_total n (λ i. field_product (slice_index a.now (from + i)) (slice_index b.now (other + i))) }
+    ensures sum { result ≡ field_total n (λ i.
+        field_product (slice_index a.now (from + i)) (slice_index b.now (other + i))) }
     ensures below { result < MODULUS }
 {
     let whole = n / 64;

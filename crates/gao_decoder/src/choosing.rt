@@ -67,7 +67,8 @@ pub(crate) fn choose(
     ensures work_room { length work.new ≡ length work.old }
     ensures below { HasDegreeBelow candidate.new k }
     ensures only { (f : List ℕ) → AreElements f → HasDegreeBelow f k
-        → ((i : ℕ) → i < length xs.now → value w.now (slice_index xs.now i) ≢ 0 → value f (slice_index xs.now i) ≡ slice_index ys.now i)
+        → ((i : ℕ) → i < length xs.now → value w.now (slice_index xs.now i) ≢ 0 →
+        value f (slice_index xs.now i) ≡ slice_index ys.now i)
         → SameCoefficients candidate.new f }
 {
     know_elements(xs);

@@ -1,3 +1,4 @@
+// The polynomial that most points lie on.
 ghost use Rattle.std.specs.Prelude.{◌≡◌, ◌↔◌, ℕ, ◌<◌, ◌≤◌, List, length, IsTrue, true, false, MatchOption};
 ghost use Rattle.poly61.specs.Poly.{IsZero, SameCoefficients, AreDistinct, PassesThrough};
 ghost use Rattle.gao_decoder.specs.Decoding.{IsDecoded, IsDecodedShort};
@@ -25,7 +26,8 @@ pub fn decode(scratch: &mut Scratch, xs: &[Fe], ys: &[Fe], k: usize, out: &mut P
     ensures exactly { IsTrue result ↔ ((f : List ℕ) × IsDecoded f xs.now ys.now k) }
     ensures only { (f : List ℕ) → IsDecoded f xs.now ys.now k → SameCoefficients out.new f }
     ensures none { result ≡ false → IsZero out.new }
-    ensures search { MatchOption (decoding_of xs.now ys.now k) (result ≡ false) (λ f. (result ≡ true) × SameCoefficients out.new f) }
+    ensures search { MatchOption (decoding_of xs.now ys.now k) (result
+        ≡ false) (λ f. (result ≡ true) × SameCoefficients out.new f) }
 {
     know_elements(xs);
     if decode_short(scratch, xs, ys, k, out) {
@@ -77,7 +79,8 @@ pub fn decode_through(
     ensures room { length out.new ≡ length out.old }
     ensures found { IsTrue result → IsDecoded out.new xs.now ys.now (length some_xs.now) }
     ensures passes { IsTrue result → PassesThrough out.new some_xs.now some_ys.now }
-    ensures complete { (f : List ℕ) → IsDecoded f xs.now ys.now (length some_xs.now) → PassesThrough f some_xs.now some_ys.now → IsTrue result }
+    ensures complete { (f : List ℕ) → IsDecoded f xs.now ys.now (length some_xs.now) →
+        PassesThrough f some_xs.now some_ys.now → IsTrue result }
     ensures none { result ≡ false → IsZero out.new }
 {
     know_elements(some_xs);

@@ -1,4 +1,5 @@
-// For a run of points the matrix of four polynomials that takes the pair (a, b) of each of them to (0, 0).
+// For a run of points the matrix of four polynomials that takes the pair (a, b) of each of them to
+// (0, 0).
 ghost use Rattle.std.specs.Prelude.{◌⊎◌, ◌≡◌, ℕ, ◌<◌, ◌≤◌, ◌+◌, ◌*◌, ◌^◌, length, slice_index, IsTrue, IfSome};
 ghost use Rattle.field61.specs.Field.{field_sum, field_product, field_difference, field_negative, field_power, AreElements};
 ghost use Rattle.field61.specs.declared.TheConstants.{MODULUS};
@@ -79,7 +80,9 @@ impl Level {
 
 // Multiplies the pivot's row by x - a, and takes the pivot off the other row.
 fn pivot_rows(row: &mut Row, other: &mut Row, a: Fe, p: Fe, n: Fe) -> bool
-    ensures { IsTrue result → IsPivoted row.old.v row.old.r other.old.v other.old.r row.new.v row.new.r other.new.v other.new.r a p n }
+    ensures { IsTrue result →
+        IsPivoted row.old.v row.old.r other.old.v other.old.r row.new.v row.new.r other.new.v
+        other.new.r a p n }
 {
     if !other.v.blend(p, n, &row.v) {
         return false;
@@ -99,10 +102,18 @@ fn pivot_pairs(xs: &[Fe], pivots: &mut [Fe], others: &mut [Fe], j: usize, to: us
     requires within { to ≤ length xs.now }
     requires pivots { length xs.now ≤ length pivots.old }
     requires others { length xs.now ≤ length others.old }
-    ensures pivots { (i : ℕ) → j ≤ i → i < to → slice_index pivots.new i ≡ field_product (slice_index pivots.old i) (field_difference (slice_index xs.now i) (slice_index xs.now j)) }
-    ensures others { (i : ℕ) → j ≤ i → i < to → slice_index others.new i ≡ field_sum (field_product (slice_index others.old i) p) (field_product (slice_index pivots.old i) n) }
-    ensures pivots_rest { (i : ℕ) → (i < j) ⊎ (to ≤ i) → slice_index pivots.new i ≡ slice_index pivots.old i }
-    ensures others_rest { (i : ℕ) → (i < j) ⊎ (to ≤ i) → slice_index others.new i ≡ slice_index others.old i }
+    ensures pivots { (i : ℕ) → j ≤ i → i < to →
+        slice_index pivots.new i
+        ≡ field_product (slice_index pivots.old i)
+        (field_difference (slice_index xs.now i) (slice_index xs.now j)) }
+    ensures others { (i : ℕ) → j ≤ i → i < to →
+        slice_index others.new i
+        ≡ field_sum (field_product (slice_index others.old i) p)
+        (field_product (slice_index pivots.old i) n) }
+    ensures pivots_rest { (i : ℕ) → (i < j) ⊎ (to ≤ i) →
+        slice_index pivots.new i ≡ slice_index pivots.old i }
+    ensures others_rest { (i : ℕ) → (i < j) ⊎ (to ≤ i) →
+        slice_index others.new i ≡ slice_index others.old i }
 {
     for i in j..to {
         others[i] = sum_of_two(others[i], p, pivots[i], n);
@@ -124,12 +135,17 @@ fn pivot(
     requires within { to ≤ length xs.now }
     requires pivots { length xs.now ≤ length pivots.old }
     requires others { length xs.now ≤ length others.old }
-    ensures keeps { IsTrue result → (i a b : ℕ) → i < to → (i < j → (slice_index pivots.old i ≡ 0) × (slice_index others.old i ≡ 0)) →
-        TakesTo row.old.v row.old.r other.old.v other.old.r (slice_index xs.now i) a b (slice_index pivots.old i) (slice_index others.old i) →
-        TakesTo row.new.v row.new.r other.new.v other.new.r (slice_index xs.now i) a b (slice_index pivots.new i) (slice_index others.new i) }
+    ensures keeps { IsTrue result → (i a b : ℕ) → i < to →
+        (i < j → (slice_index pivots.old i ≡ 0) × (slice_index others.old i ≡ 0)) →
+        TakesTo row.old.v row.old.r other.old.v other.old.r (slice_index xs.now i) a b
+        (slice_index pivots.old i) (slice_index others.old i) →
+        TakesTo row.new.v row.new.r other.new.v other.new.r (slice_index xs.now i) a b
+        (slice_index pivots.new i) (slice_index others.new i) }
     ensures zero { IsTrue result → (slice_index pivots.new j ≡ 0) × (slice_index others.new j ≡ 0) }
-    ensures pivots_rest { (i : ℕ) → (i < j) ⊎ (to ≤ i) → slice_index pivots.new i ≡ slice_index pivots.old i }
-    ensures others_rest { (i : ℕ) → (i < j) ⊎ (to ≤ i) → slice_index others.new i ≡ slice_index others.old i }
+    ensures pivots_rest { (i : ℕ) → (i < j) ⊎ (to ≤ i) →
+        slice_index pivots.new i ≡ slice_index pivots.old i }
+    ensures others_rest { (i : ℕ) → (i < j) ⊎ (to ≤ i) →
+        slice_index others.new i ≡ slice_index others.old i }
 {
     let p = pivots[j];
     let n = others[j].neg();
@@ -159,12 +175,18 @@ fn eliminate(
     requires within { to ≤ length xs.now }
     requires firsts { length xs.now ≤ length firsts.old }
     requires seconds { length xs.now ≤ length seconds.old }
-    ensures keeps { IsTrue result → (i a b : ℕ) → i < to → (i < j → (slice_index firsts.old i ≡ 0) × (slice_index seconds.old i ≡ 0)) →
-        TakesTo rows.old.a.v rows.old.a.r rows.old.b.v rows.old.b.r (slice_index xs.now i) a b (slice_index firsts.old i) (slice_index seconds.old i) →
-        TakesTo rows.new.a.v rows.new.a.r rows.new.b.v rows.new.b.r (slice_index xs.now i) a b (slice_index firsts.new i) (slice_index seconds.new i) }
-    ensures zero { IsTrue result → (slice_index firsts.new j ≡ 0) × (slice_index seconds.new j ≡ 0) }
-    ensures firsts_rest { (i : ℕ) → (i < j) ⊎ (to ≤ i) → slice_index firsts.new i ≡ slice_index firsts.old i }
-    ensures seconds_rest { (i : ℕ) → (i < j) ⊎ (to ≤ i) → slice_index seconds.new i ≡ slice_index seconds.old i }
+    ensures keeps { IsTrue result → (i a b : ℕ) → i < to →
+        (i < j → (slice_index firsts.old i ≡ 0) × (slice_index seconds.old i ≡ 0)) →
+        TakesTo rows.old.a.v rows.old.a.r rows.old.b.v rows.old.b.r (slice_index xs.now i) a b
+        (slice_index firsts.old i) (slice_index seconds.old i) →
+        TakesTo rows.new.a.v rows.new.a.r rows.new.b.v rows.new.b.r (slice_index xs.now i) a b
+        (slice_index firsts.new i) (slice_index seconds.new i) }
+    ensures zero { IsTrue result → (slice_index firsts.new j ≡ 0)
+        × (slice_index seconds.new j ≡ 0) }
+    ensures firsts_rest { (i : ℕ) → (i < j) ⊎ (to ≤ i) →
+        slice_index firsts.new i ≡ slice_index firsts.old i }
+    ensures seconds_rest { (i : ℕ) → (i < j) ⊎ (to ≤ i) →
+        slice_index seconds.new i ≡ slice_index seconds.old i }
 {
     if firsts[j].value() == 0 {
         if seconds[j].value() == 0 {
@@ -181,7 +203,8 @@ fn eliminate(
 
 // Makes the rows (1, 0) and (0, 1).
 fn become_unit(rows: &mut Rows) -> bool
-    ensures { IsTrue result → (x a b : ℕ) → a < MODULUS → b < MODULUS → TakesTo rows.new.a.v rows.new.a.r rows.new.b.v rows.new.b.r x a b a b }
+    ensures { IsTrue result → (x a b : ℕ) → a < MODULUS → b < MODULUS →
+        TakesTo rows.new.a.v rows.new.a.r rows.new.b.v rows.new.b.r x a b a b }
 {
     rows.a.r.clear();
     rows.b.v.clear();
@@ -206,9 +229,11 @@ fn leaf(
     requires firsts { length xs.now ≤ length firsts.old }
     requires seconds { length xs.now ≤ length seconds.old }
     ensures done { IsTrue result → (i : ℕ) → from ≤ i → i < to →
-        TakesTo rows.new.a.v rows.new.a.r rows.new.b.v rows.new.b.r (slice_index xs.now i) (slice_index firsts.old i) (slice_index seconds.old i) 0 0 }
+        TakesTo rows.new.a.v rows.new.a.r rows.new.b.v rows.new.b.r (slice_index xs.now i)
+        (slice_index firsts.old i) (slice_index seconds.old i) 0 0 }
     ensures firsts_rest { (i : ℕ) → to ≤ i → slice_index firsts.new i ≡ slice_index firsts.old i }
-    ensures seconds_rest { (i : ℕ) → to ≤ i → slice_index seconds.new i ≡ slice_index seconds.old i }
+    ensures seconds_rest { (i : ℕ) → to ≤ i →
+        slice_index seconds.new i ≡ slice_index seconds.old i }
 {
     know_elements(firsts);
     know_elements(seconds);
@@ -243,10 +268,17 @@ fn update(rows: &Rows, xs: &[Fe], firsts: &mut [Fe], seconds: &mut [Fe], from: u
     requires within { to ≤ length xs.now }
     requires firsts { length xs.now ≤ length firsts.old }
     requires seconds { length xs.now ≤ length seconds.old }
-    ensures firsts { (i : ℕ) → from ≤ i → i < to → slice_index firsts.new i ≡ row_at rows.now.a.v rows.now.a.r (slice_index xs.now i) (slice_index firsts.old i) (slice_index seconds.old i) }
-    ensures seconds { (i : ℕ) → from ≤ i → i < to → slice_index seconds.new i ≡ row_at rows.now.b.v rows.now.b.r (slice_index xs.now i) (slice_index firsts.old i) (slice_index seconds.old i) }
+    ensures firsts { (i : ℕ) → from ≤ i → i < to →
+        slice_index firsts.new i
+        ≡ row_at rows.now.a.v rows.now.a.r (slice_index xs.now i) (slice_index firsts.old i)
+        (slice_index seconds.old i) }
+    ensures seconds { (i : ℕ) → from ≤ i → i < to →
+        slice_index seconds.new i
+        ≡ row_at rows.now.b.v rows.now.b.r (slice_index xs.now i) (slice_index firsts.old i)
+        (slice_index seconds.old i) }
     ensures firsts_rest { (i : ℕ) → to ≤ i → slice_index firsts.new i ≡ slice_index firsts.old i }
-    ensures seconds_rest { (i : ℕ) → to ≤ i → slice_index seconds.new i ≡ slice_index seconds.old i }
+    ensures seconds_rest { (i : ℕ) → to ≤ i →
+        slice_index seconds.new i ≡ slice_index seconds.old i }
 {
     let mut powers = [Fe::ONE; 32];
     for i in from..to {
@@ -279,7 +311,8 @@ fn sum_products(
 // Makes it the row's product with the two rows.
 fn row_product(out: &mut Row, row: &Row, rows: &Rows, products: &mut ProductRoom) -> bool
     ensures { IsTrue result → (x a b : ℕ) → row_at out.new.v out.new.r x a b
-        ≡ row_at row.now.v row.now.r x (row_at rows.now.a.v rows.now.a.r x a b) (row_at rows.now.b.v rows.now.b.r x a b) }
+        ≡ row_at row.now.v row.now.r x (row_at rows.now.a.v rows.now.a.r x a b)
+        (row_at rows.now.b.v rows.now.b.r x a b) }
 {
     if !sum_products(&mut out.v, &row.v, &rows.a.v, &row.r, &rows.b.v, products) {
         return false;
@@ -305,9 +338,11 @@ fn halve(
     requires firsts { length xs.now ≤ length firsts.old }
     requires seconds { length xs.now ≤ length seconds.old }
     ensures done { IsTrue result → (i : ℕ) → from ≤ i → i < to →
-        TakesTo rows.new.a.v rows.new.a.r rows.new.b.v rows.new.b.r (slice_index xs.now i) (slice_index firsts.old i) (slice_index seconds.old i) 0 0 }
+        TakesTo rows.new.a.v rows.new.a.r rows.new.b.v rows.new.b.r (slice_index xs.now i)
+        (slice_index firsts.old i) (slice_index seconds.old i) 0 0 }
     ensures firsts_rest { (i : ℕ) → to ≤ i → slice_index firsts.new i ≡ slice_index firsts.old i }
-    ensures seconds_rest { (i : ℕ) → to ≤ i → slice_index seconds.new i ≡ slice_index seconds.old i }
+    ensures seconds_rest { (i : ℕ) → to ≤ i →
+        slice_index seconds.new i ≡ slice_index seconds.old i }
 {
     if to - from <= LEAF_POINTS {
         return leaf(xs, firsts, seconds, from, to, orders, rows);
@@ -464,7 +499,8 @@ impl Halves {
     pub(crate) fn run(&mut self, xs: &[Fe], ys: &[Fe], k: usize) -> Option<usize>
         requires pairs { length xs.now ≡ length ys.now }
         requires threshold { k ≤ length xs.now }
-        ensures { IfSome result (λ e. IsStopped xs.now ys.now self.new.rows.a.r self.new.rows.a.v k e) }
+        ensures { IfSome result (λ e.
+            IsStopped xs.now ys.now self.new.rows.a.r self.new.rows.a.v k e) }
     {
         if !find_row(
             xs,

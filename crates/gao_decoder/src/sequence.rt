@@ -59,7 +59,8 @@ fn reduce(
     low: usize,
     cofactor_top: usize,
 )
-    requires neighbours { AreNeighbours xs.now ys.now upper.old upper_cofactor.old lower.now lower_cofactor.now top cofactor_top }
+    requires neighbours { AreNeighbours xs.now ys.now upper.old upper_cofactor.old lower.now
+        lower_cofactor.now top cofactor_top }
     requires order { low < top }
     requires degree { HasDegree lower.now low }
     requires room { length xs.now < length upper.old }
@@ -106,7 +107,8 @@ impl Remainders {
         requires rooms { HaveRoom self.old (length self.old.upper) }
         requires room { length xs.now < length self.old.upper }
         ensures rooms { HaveRoom self.new (length self.old.upper) }
-        ensures start { AreNeighbours xs.now ys.now self.new.upper self.new.upper_cofactor self.new.lower self.new.lower_cofactor (length xs.now) 0 }
+        ensures start { AreNeighbours xs.now ys.now self.new.upper self.new.upper_cofactor
+            self.new.lower self.new.lower_cofactor (length xs.now) 0 }
     {
         know_elements(ys);
         self.lower.interpolate(&mut self.upper, xs, ys);
@@ -119,7 +121,8 @@ impl Remainders {
     /// Runs the sequence to the first lower remainder of degree below (n + k) / 2, and answers the
     /// degree of its cofactor.
     pub(crate) fn run_down(&mut self, xs: &[Fe], ys: &[Fe], k: usize) -> usize
-        requires start { AreNeighbours xs.now ys.now self.old.upper self.old.upper_cofactor self.old.lower self.old.lower_cofactor (length xs.now) 0 }
+        requires start { AreNeighbours xs.now ys.now self.old.upper self.old.upper_cofactor
+            self.old.lower self.old.lower_cofactor (length xs.now) 0 }
         requires threshold { k ≤ length xs.now }
         requires rooms { HaveRoom self.old (length self.old.upper) }
         requires room { length xs.now < length self.old.upper }

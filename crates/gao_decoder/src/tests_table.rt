@@ -21,8 +21,8 @@ fn points(alloc: Global, n: usize) -> Result<Vec<Fe>, NoMemory>
     Ok(xs)
 }
 
-// The values at the points of the polynomial with the coefficients s, s^2, .. s^k. The first of them are wrong: the
-// value at x is off by x.
+// The values at the points of the polynomial with the coefficients s, s^2, .. s^k. The first of
+// them are wrong: the value at x is off by x.
 fn values(alloc: Global, xs: &[Fe], s: Fe, k: usize, wrong: usize) -> Result<Vec<Fe>, NoMemory>
     ensures { IfOk result (λ ys. length ys.items ≡ length xs.now) }
 {
@@ -79,8 +79,8 @@ fn two_halves_of_81_points(rt: HostRuntime) -> Result<(), Fail> {
     Ok(())
 }
 
-// Each row has n, k, s, how many values are wrong, and what another program decodes: at most (n - k) / 2 wrong values
-// leave the polynomial, and one more mostly leaves none.
+// Each row has n, k, s, how many values are wrong, and what another program decodes: at most (n -
+// k) / 2 wrong values leave the polynomial, and one more mostly leaves none.
 #[test]
 fn agrees_with_another_decoder(rt: HostRuntime) -> Result<(), Fail> {
     let alloc = rt.alloc();

@@ -39,7 +39,8 @@ pub(crate) fn read_body(
 ) -> Result<Body, NoMemory>
     requires level { keys.now.level ≤ MAX_LEVEL_TWO }
     requires short { length (fields_of frame.now).body ≤ MAX_FRAME_TWO }
-    ensures { IfOk result (λ body. body ≡ body_seen keys.now.level index (next_with keys.now (fields_of frame.now))) }
+    ensures { IfOk result (λ body. body
+        ≡ body_seen keys.now.level index (next_with keys.now (fields_of frame.now))) }
 {
     if !is_sealed(&keys.seal, frame) {
         return Ok(Body::Refused(Why::Seal));
@@ -69,7 +70,8 @@ fn decrypt(key: &[u8; 32], frame: &FrameView<'_>, room: &mut Vec<u8>) -> Result<
 // What a plain body holds.
 fn read_plain(alloc: Global, keys: &Keys, index: u32, plain: &[u8]) -> Result<Body, NoMemory>
     requires { keys.now.level ≤ MAX_LEVEL_TWO }
-    ensures { IfOk result (λ body. body ≡ body_seen keys.now.level index (opened_body keys.now plain.now)) }
+    ensures { IfOk result (λ body. body
+        ≡ body_seen keys.now.level index (opened_body keys.now plain.now)) }
 {
     match plain {
         [0, extra @ ..] => read_last(alloc, keys, index, extra),
@@ -90,7 +92,8 @@ fn most_after_last(version: Version) -> usize
 
 // What the bytes behind the 0 of a plain body are.
 fn read_last(alloc: Global, keys: &Keys, index: u32, extra: &[u8]) -> Result<Body, NoMemory>
-    ensures { IfOk result (λ body. body ≡ body_seen keys.now.level index (last_or_refused keys.now.version extra.now)) }
+    ensures { IfOk result (λ body. body
+        ≡ body_seen keys.now.level index (last_or_refused keys.now.version extra.now)) }
 {
     if extra.len() > most_after_last(keys.version) {
         return Ok(Body::Refused(Why::BodyTail));
@@ -108,7 +111,10 @@ fn read_last(alloc: Global, keys: &Keys, index: u32, extra: &[u8]) -> Result<Bod
 // What the bytes behind the 1 of a plain body are.
 fn read_inner(alloc: Global, keys: &Keys, index: u32, bytes: &[u8]) -> Result<Body, NoMemory>
     requires { keys.now.level ≤ MAX_LEVEL_TWO }
-    ensures { IfOk result (λ body. body ≡ body_seen keys.now.level index (inner_or_refused keys.now.version (frame_for keys.now.epoch (keys.now.level + 1) (decoded bytes.now)))) }
+    ensures { IfOk result (λ body. body
+        ≡ body_seen keys.now.level index
+        (inner_or_refused keys.now.version
+        (frame_for keys.now.epoch (keys.now.level + 1) (decoded bytes.now)))) }
 {
     match decode_view(bytes) {
         Err(fault) => Ok(Body::Refused(Why::Frame(fault.kind))),

@@ -53,7 +53,8 @@ pub fn open_group_line(alloc: Global, level: &Level, group: &Group) -> Result<Gr
     requires { FitsLevel level.now group.now }
     ensures out { IfOk result (λ opened. IsOut level.now group.now opened.out) }
     ensures points { IfOk result (λ opened. opened.points ≡ group_points level.now group.now) }
-    ensures line { IfOk result (λ opened. HasLine (group_points level.now group.now) group.now.head.k opened.line opened.out.outcome) }
+    ensures line { IfOk result (λ opened.
+        HasLine (group_points level.now group.now) group.now.head.k opened.line opened.out.outcome) }
 {
     let rows = level.rows.as_slice();
     let left = points_left(alloc, rows, group)?;
@@ -91,7 +92,8 @@ fn key_line(alloc: Global, points: &[Point], k: usize) -> Result<Option<KeyLine>
     requires some { 1 ≤ k }
     requires threshold { k ≤ length points.now }
     requires few { length points.now < 2 ^ 32 }
-    ensures found { IfOk result (λ line. option_map (λ l. l.found) line ≡ key_line_of points.now k) }
+    ensures found { IfOk result (λ line. option_map (λ l. l.found) line
+        ≡ key_line_of points.now k) }
     ensures line { IfOk result (λ line. IfSome line (IsLine points.now k)) }
 {
     let work = KeyWork::new(alloc, points.len())?;
@@ -101,7 +103,14 @@ fn key_line(alloc: Global, points: &[Point], k: usize) -> Result<Option<KeyLine>
 // A group that isn't opened.
 fn closed(alloc: Global, outcome: Outcome, points: Points) -> GroupLine
     requires { length points < 2 ^ 32 }
-    ensures out { result.out ≡ record { outcome = outcome; points = length points; inner = []; refusals = []; aux = [] } }
+    ensures out { result.out
+        ≡ record {
+          outcome = outcome;
+          points = length points;
+          inner = [];
+          refusals = [];
+          aux = [];
+        } }
     ensures points { result.points ≡ points }
     ensures line { result.line ≡ None }
 {
@@ -122,7 +131,14 @@ fn closed(alloc: Global, outcome: Outcome, points: Points) -> GroupLine
 // A group that is opened by these polynomials, whose members hold this.
 fn opened(outcome: Outcome, points: Points, line: KeyLine, held: Held) -> GroupLine
     requires { length points < 2 ^ 32 }
-    ensures out { result.out ≡ record { outcome = outcome; points = length points; inner = held.inner; refusals = held.refusals; aux = held.aux } }
+    ensures out { result.out
+        ≡ record {
+          outcome = outcome;
+          points = length points;
+          inner = held.inner;
+          refusals = held.refusals;
+          aux = held.aux;
+        } }
     ensures points { result.points ≡ points }
     ensures line { result.line ≡ Some line }
 {

@@ -21,7 +21,8 @@ pub(crate) fn with_groups(
     parents: Parents,
     grouper: Grouper,
 ) -> GroupedLevel
-    ensures level { result.level ≡ record { number = number; epoch = epoch; parents = parents; rows = grouper } }
+    ensures level { result.level
+        ≡ record { number = number; epoch = epoch; parents = parents; rows = grouper } }
     ensures groups { result.groups ≡ groups_of grouper }
 {
     let Grouped { rows, groups } = grouper.finish();

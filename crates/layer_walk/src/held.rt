@@ -72,7 +72,8 @@ pub(crate) fn append<T: Drop>(all: &mut Vec<T>, items: Vec<T>) -> Result<(), NoM
 
 // Makes rows of the reports, under the parent of this number.
 fn adopt_all(rows: &mut Vec<Row>, parent: u32, inners: Vec<Inner>) -> Result<(), NoMemory>
-    ensures { IfOk result (λ _. rows.new.items ≡ rows.old.items ++ map (adopt parent) inners.items) }
+    ensures { IfOk result (λ _. rows.new.items
+        ≡ rows.old.items ++ map (adopt parent) inners.items) }
 {
     for inner in inners {
         rows.push(adopt(parent, inner))?;

@@ -25,7 +25,8 @@ impl<'a> Job for LevelJob<'a> {
 
     ghost jobs = { λ j. length j.groups.now };
 
-    ghost answers = { λ j i out. IfSome (slice_get j.groups.now i) (λ group. IsOut j.level.now group out) };
+    ghost answers = { λ j i out.
+        IfSome (slice_get j.groups.now i) (λ group. IsOut j.level.now group out) };
 
     fn count(&self) -> u64 {
         self.groups.len() as u64
@@ -36,8 +37,8 @@ impl<'a> Job for LevelJob<'a> {
     }
 }
 
-/// What opening each group of the level gives, in the order of the groups. The groups are opened by so
-/// many workers, group i as job i of the level's number.
+/// What opening each group of the level gives, in the order of the groups. The groups are opened by
+/// so many workers, group i as job i of the level's number.
 pub(crate) fn outs_of<R: Threads + Sync, G: Gate>(
     rt: &R,
     alloc: Global,

@@ -35,10 +35,14 @@ pub(crate) fn told_from<R: Threads + Sync, G: Gate>(
     requires number { first.level.number ≡ 0 }
     requires groups { first.groups ≡ groups_of first.level.rows }
     requires workers { (1 ≤ workers) × (workers ≤ MAX_WORKERS) }
-    ensures groups { IfOk result (λ told. told.groups.items ≡ groups_told first.level.epoch (named first.level) MAX_LAYERS) }
-    ensures levels { IfOk result (λ told. told.levels ≡ levels_told first.level.epoch (named first.level) MAX_LAYERS) }
-    ensures refusals { IfOk result (λ told. told.refusals.items ≡ refusals ++ refusals_told first.level.epoch (named first.level) MAX_LAYERS) }
-    ensures aux { IfOk result (λ told. told.aux.items ≡ aux_told first.level.epoch (named first.level) MAX_LAYERS) }
+    ensures groups { IfOk result (λ told. told.groups.items
+        ≡ groups_told first.level.epoch (named first.level) MAX_LAYERS) }
+    ensures levels { IfOk result (λ told. told.levels
+        ≡ levels_told first.level.epoch (named first.level) MAX_LAYERS) }
+    ensures refusals { IfOk result (λ told. told.refusals.items
+        ≡ refusals ++ refusals_told first.level.epoch (named first.level) MAX_LAYERS) }
+    ensures aux { IfOk result (λ told. told.aux.items
+        ≡ aux_told first.level.epoch (named first.level) MAX_LAYERS) }
 {
     let mut here = first;
     let mut told = Told {
@@ -69,7 +73,8 @@ fn pass_level(
     requires groups { here.now.groups ≡ groups_of here.now.level.rows }
     requires outs { AreOuts here.now.level here.now.groups outs.items }
     ensures tells { IfOk result (λ _. TellsLevel here.now.level told.old told.new) }
-    ensures after { IfOk result (λ next. IsAfter here.now.level here.now.groups outs.items next.level) }
+    ensures after { IfOk result (λ next.
+        IsAfter here.now.level here.now.groups outs.items next.level) }
     ensures good { IfOk result (λ next. IsLevel next.level) }
     ensures groups { IfOk result (λ next. next.groups ≡ groups_of next.level.rows) }
 {

@@ -47,8 +47,8 @@ impl Step {
     }
 }
 
-/// The steps to an opened group, the outermost first, held in place. Paths are compared step by step,
-/// a proper prefix first.
+/// The steps to an opened group, the outermost first, held in place. Paths are compared step by
+/// step, a proper prefix first.
 #[derive(Clone, Debug, Drop, PartialEq, Eq, PartialOrd, Ord)]
 pub struct Path {
     steps: ArrayVec<Step, MAX_STEPS>,

@@ -59,7 +59,8 @@ pub(crate) fn tell_groups(
     requires number { level.now.number ≤ MAX_LEVEL_TWO }
     requires groups { groups.now ≡ groups_of level.now.rows }
     requires outs { AreOuts level.now groups.now outs.now }
-    ensures { IfOk result (λ _. told.new.items ≡ told.old.items ++ told_groups level.now groups.now outs.now) }
+    ensures { IfOk result (λ _. told.new.items
+        ≡ told.old.items ++ told_groups level.now groups.now outs.now) }
 {
     for (i, out) in outs.iter().enumerate() {
         if let Outcome::Opened { value, agree } = &out.outcome {

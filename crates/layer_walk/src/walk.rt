@@ -35,14 +35,25 @@ impl Model for Walk {
 
     ghost Value = { WalkView };
 
-    ghost view = { λ w. record { epoch = w.epoch; taken = w.taken; rows = w.rows; refusals = w.refusals } };
+    ghost view = { λ w. record {
+      epoch = w.epoch;
+      taken = w.taken;
+      rows = w.rows;
+      refusals = w.refusals;
+    } };
 
     ghost use Rattle.std.specs.Prelude.{◌≡◌, ◌≤◌, List};
     ghost use Rattle.star_io.specs.declared.record.Record.{Record};
     ghost use Rattle.star_io.specs.declared.record.TheConstants.{MAX_RECORDS};
     ghost use Rattle.layer_walk.specs.Standing.{IsWalk};
 
-    ghost invariant = { λ w. IsWalk (record { epoch = w.epoch; taken = w.taken; rows = w.rows; refusals = w.refusals }) };
+    ghost invariant = { λ w.
+        IsWalk (record {
+          epoch = w.epoch;
+          taken = w.taken;
+          rows = w.rows;
+          refusals = w.refusals;
+        }) };
 }
 
 impl Walk {
@@ -74,7 +85,8 @@ impl Walk {
         requires { self.old.taken < MAX_RECORDS }
         ensures epoch { self.new.epoch ≡ self.old.epoch }
         ensures taken { OnOk result (self.new.taken ≡ self.old.taken + 1) }
-        ensures stands { OnOk result ((records : List Record) → StandsFor self.old records → StandsFor self.new (records ++ item ∷ [])) }
+        ensures stands { OnOk result ((records : List Record) → StandsFor self.old records →
+            StandsFor self.new (records ++ item ∷ [])) }
         ensures kept { OnErr result (self.new ≡ self.old) }
     {
         let index = self.taken;
@@ -90,8 +102,8 @@ impl Walk {
         Ok(())
     }
 
-    /// What the records that were taken tell for the epoch. The groups of each level are opened by so
-    /// many workers, group i as job i of that level, and each passes the gate first.
+    /// What the records that were taken tell for the epoch. The groups of each level are opened by
+    /// so many workers, group i as job i of that level, and each passes the gate first.
     pub fn finish<R: Threads + Sync, G: Gate>(
         self,
         rt: &R,
@@ -99,7 +111,8 @@ impl Walk {
         gate: &G,
     ) -> Result<Revealed, NoMemory>
         requires { (1 ≤ workers) × (workers ≤ MAX_WORKERS) }
-        ensures { (records : List Record) → StandsFor self records → IfOk result (λ told. told ≡ reveal_of self.epoch records) }
+        ensures { (records : List Record) → StandsFor self records →
+            IfOk result (λ told. told ≡ reveal_of self.epoch records) }
     {
         let Walk {
             alloc,

@@ -44,7 +44,8 @@ pub(crate) fn spell_before(front: &Front, body: &[u8]) -> ArrayVec<u8, MAX_BEFOR
 
 // The fields before the length of the box. The body counts for the proof alone.
 fn spell_front(front: &Front, body: &[u8]) -> ArrayVec<u8, MAX_BEFORE>
-    ensures front { result.items ≡ spelling frame (front_entries (fields_of_front front.now body.now)) }
+    ensures front { result.items
+        ≡ spelling frame (front_entries (fields_of_front front.now body.now)) }
     ensures long { length result.items ≡ FRONT_BYTES }
 {
     let mut bytes = ArrayVec::new();

@@ -19,7 +19,8 @@ use sha2::{Digest, Sha256};
 use star_io::NoMemory;
 use std::alloc::Global;
 
-/// A stream for trials, which two numbers determine: reports of two layers with thresholds 20 and 10.
+/// A stream for trials, which two numbers determine: reports of two layers with thresholds 20 and
+/// 10.
 ///
 /// `liars` is how many in a hundred have a wrong share in layer 0.
 pub fn gen_text(alloc: Global, number: u32, reports: u32, liars: u32) -> Result<Vec<u8>, NoMemory>

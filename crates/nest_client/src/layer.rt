@@ -35,8 +35,11 @@ pub(crate) fn write_layer(
     requires k_high { context.now.k ≤ max_threshold context.now.version }
     requires some { FIXED_BYTES + length context.now.value < length frame.old }
     requires short { length frame.old ≤ max_frame context.now.version }
-    ensures bytes { frame.new ≡ frame_of (layer reporter.now.client shift context.now (body_in frame.old (length context.now.value))) }
-    ensures frame { IsFrame (layer reporter.now.client shift context.now (body_in frame.old (length context.now.value))) frame.new }
+    ensures bytes { frame.new
+        ≡ frame_of (layer reporter.now.client shift context.now
+        (body_in frame.old (length context.now.value))) }
+    ensures frame { IsFrame (layer reporter.now.client shift context.now
+        (body_in frame.old (length context.now.value))) frame.new }
 {
     know_ranges(context);
     let version = context.version;
@@ -86,8 +89,10 @@ pub(crate) fn body_start(value: &Value) -> usize
 fn write_around(frame: &mut [u8], front: &Front, body_key: &[u8; 32], seal_key: &[u8; 32])
     requires long { body_start (length front.now.head.boxed) + SEAL_BYTES ≤ length frame.old }
     requires short { length frame.old ≤ MAX_FRAME_TWO }
-    ensures { let body = body_of body_key.now front.now.nonce (body_in frame.old (length front.now.head.boxed)) in
-        let part = sealed_part (fields_of_front front.now body) in frame.new ≡ part ++ hmac_sha256 seal_key.now part }
+    ensures { let body = body_of body_key.now front.now.nonce
+        (body_in frame.old (length front.now.head.boxed)) in
+        let part = sealed_part (fields_of_front front.now body) in frame.new
+        ≡ part ++ hmac_sha256 seal_key.now part }
 {
     let start = body_start(&front.head.boxed);
     let end = frame.len() - SEAL_BYTES;
@@ -108,7 +113,8 @@ fn encrypt_part(
     requires places { start ≤ end }
     requires within { end ≤ length frame.old }
     requires short { length frame.old ≤ MAX_FRAME_TWO }
-    ensures { frame.new ≡ take start frame.old ++ (body_of key.now nonce.now (slice_range frame.old start end) ++ drop end frame.old) }
+    ensures { frame.new ≡ take start frame.old
+        ++ (body_of key.now nonce.now (slice_range frame.old start end) ++ drop end frame.old) }
 {
     xor_stream(key, nonce, 0, &mut frame[start..end]);
 }
@@ -124,7 +130,8 @@ fn put_first(frame: &mut [u8], bytes: &[u8])
 // Puts the seal of what stands before it last.
 fn put_seal(frame: &mut [u8], key: &[u8; 32])
     requires { SEAL_BYTES ≤ length frame.old }
-    ensures { let part = take (length frame.old - SEAL_BYTES) frame.old in frame.new ≡ part ++ hmac_sha256 key.now part }
+    ensures { let part = take (length frame.old - SEAL_BYTES) frame.old in frame.new
+        ≡ part ++ hmac_sha256 key.now part }
 {
     let end = frame.len() - SEAL_BYTES;
     let seal = hmac(key, &frame[..end]);

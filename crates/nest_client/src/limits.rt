@@ -7,7 +7,8 @@ ghost use Rattle.nest_client.specs.declared.limits.TheConstants.{LAYER_BYTES};
 
 use report_frame::{Extra, FIXED_BYTES, MAX_EXTRA, MAX_LAYERS, MAX_LEVEL_ONE, MAX_VALUE, Value};
 
-/// The most bytes that a layer adds to a report: its frame without a body, and the first byte of its body.
+/// The most bytes that a layer adds to a report: its frame without a body, and the first byte of
+/// its body.
 pub(crate) const LAYER_BYTES: usize = FIXED_BYTES + MAX_VALUE + 1;
 
 /// The most bytes of a report of version 1.

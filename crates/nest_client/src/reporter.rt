@@ -23,7 +23,8 @@ pub(crate) struct Reporter {
     pub(crate) coins: [u8; ALL_COINS],
     ghost few: { layers ≤ max_layers client.version },
     ghost short: { length extra ≤ MAX_EXTRA },
-    ghost drawn: { take (LAYER_COINS * layers) coins ≡ keystream client.seed (client_nonce client.number) 0 0 (LAYER_COINS * layers) },
+    ghost drawn: { take (LAYER_COINS * layers) coins
+        ≡ keystream client.seed (client_nonce client.number) 0 0 (LAYER_COINS * layers) },
 }
 
 impl Reporter {
@@ -60,7 +61,8 @@ impl Reporter {
 // The coins of so many layers. What follows them is 0.
 fn draw_coins(client: &Client, layers: usize) -> [u8; ALL_COINS]
     requires { layers ≤ MAX_LAYERS }
-    ensures { take (LAYER_COINS * layers) result ≡ keystream client.now.seed (client_nonce client.now.number) 0 0 (LAYER_COINS * layers) }
+    ensures { take (LAYER_COINS * layers) result
+        ≡ keystream client.now.seed (client_nonce client.now.number) 0 0 (LAYER_COINS * layers) }
 {
     let mut coins = [0; ALL_COINS];
     let nonce = client_nonce(client.number);

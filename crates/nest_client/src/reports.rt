@@ -25,7 +25,8 @@ const LAST_LAYER: u8 = 0;
 /// The first byte of a plain body that holds the frame of the next layer.
 const NEXT_LAYER: u8 = 1;
 
-/// The frame of the report of the values in version 1, one layer for each. It has at most 1,616 bytes.
+/// The frame of the report of the values in version 1, one layer for each. It has at most 1,616
+/// bytes.
 ///
 /// The seed makes the coins of all clients; `client` is the number of this one. A seed and a number
 /// make one report: another one wants another seed or number.
@@ -39,15 +40,17 @@ pub fn build(
 ) -> Result<Vec<u8>, NoMemory>
     requires thresholds { AreThresholds One thresholds.now }
     requires width { length values.now ≡ length thresholds.now }
-    ensures frame { IfOk result (λ v. IsFrame (report (client_of One epoch seed.now client) values.now thresholds.now) v.items) }
+    ensures frame { IfOk result (λ v.
+        IsFrame (report (client_of One epoch seed.now client) values.now thresholds.now) v.items) }
     ensures short { IfOk result (λ v. length v.items ≤ LAYER_BYTES * length values.now) }
     ensures most { IfOk result (λ v. length v.items ≤ MAX_REPORT_ONE) }
 {
     build_shifted(alloc, values, thresholds, epoch, seed, client, Fe::ZERO)
 }
 
-/// As [`build`], with the first number of the share in layer 0 raised by the shift, and the seal made
-/// over that: a report that is good by itself, and whose share is wrong where the shift isn't 0.
+/// As [`build`], with the first number of the share in layer 0 raised by the shift, and the seal
+/// made over that: a report that is good by itself, and whose share is wrong where the shift isn't
+/// 0.
 pub fn build_shifted(
     alloc: Global,
     values: &[Value],
@@ -59,7 +62,9 @@ pub fn build_shifted(
 ) -> Result<Vec<u8>, NoMemory>
     requires thresholds { AreThresholds One thresholds.now }
     requires width { length values.now ≡ length thresholds.now }
-    ensures frame { IfOk result (λ v. IsFrame (report_shifted (client_of One epoch seed.now client) shift values.now thresholds.now) v.items) }
+    ensures frame { IfOk result (λ v.
+        IsFrame (report_shifted (client_of One epoch seed.now client) shift values.now
+        thresholds.now) v.items) }
     ensures short { IfOk result (λ v. length v.items ≤ LAYER_BYTES * length values.now) }
     ensures most { IfOk result (λ v. length v.items ≤ MAX_REPORT_ONE) }
 {
@@ -73,7 +78,8 @@ pub fn build_shifted(
     made(alloc, sender, values, thresholds, &none, shift)
 }
 
-/// As [`build`], in version 2, with these extra bytes in the last layer. It has at most 3,487 bytes.
+/// As [`build`], in version 2, with these extra bytes in the last layer. It has at most 3,487
+/// bytes.
 pub fn build2(
     alloc: Global,
     values: &[Value],
@@ -85,8 +91,11 @@ pub fn build2(
 ) -> Result<Vec<u8>, NoMemory>
     requires thresholds { AreThresholds Two thresholds.now }
     requires width { length values.now ≡ length thresholds.now }
-    ensures frame { IfOk result (λ v. IsFrame (report2 (client_of Two epoch seed.now client) extra.now values.now thresholds.now) v.items) }
-    ensures short { IfOk result (λ v. length v.items ≤ LAYER_BYTES * length values.now + length extra.now) }
+    ensures frame { IfOk result (λ v.
+        IsFrame (report2 (client_of Two epoch seed.now client) extra.now values.now thresholds.now)
+        v.items) }
+    ensures short { IfOk result (λ v. length v.items
+        ≤ LAYER_BYTES * length values.now + length extra.now) }
     ensures most { IfOk result (λ v. length v.items ≤ MAX_REPORT_TWO) }
 {
     // This makes known how many extra bytes there may be.
@@ -129,8 +138,11 @@ fn made(
 ) -> Result<Vec<u8>, NoMemory>
     requires thresholds { AreThresholds client.version thresholds.now }
     requires width { length values.now ≡ length thresholds.now }
-    ensures frame { IfOk result (λ v. IsFrame (report_from client extra.now 0 (replicate 32 0) shift values.now thresholds.now) v.items) }
-    ensures short { IfOk result (λ v. length v.items ≤ LAYER_BYTES * length values.now + length extra.now) }
+    ensures frame { IfOk result (λ v.
+        IsFrame (report_from client extra.now 0 (replicate 32 0) shift values.now thresholds.now)
+        v.items) }
+    ensures short { IfOk result (λ v. length v.items
+        ≤ LAYER_BYTES * length values.now + length extra.now) }
 {
     let mut frame = vec![in alloc; 0u8; report_bytes(values, extra)]?;
     write_shifted(&mut frame, client, values, thresholds, extra, shift);
@@ -149,7 +161,8 @@ fn write_shifted(
     requires thresholds { AreThresholds client.version thresholds.now }
     requires width { length values.now ≡ length thresholds.now }
     requires long { length frame.old ≡ report_bytes values.now extra.now }
-    ensures { IsFrame (report_from client extra.now 0 (replicate 32 0) shift values.now thresholds.now) frame.new }
+    ensures { IsFrame (report_from client extra.now 0 (replicate 32 0) shift values.now
+        thresholds.now) frame.new }
 {
     // This makes known how long the frame is at most.
     let _bytes = report_bytes(values, extra);
@@ -166,8 +179,8 @@ fn write_shifted(
     );
 }
 
-// Writes the frame of the layers of these values, the first of which has this level and this parent.
-// The first number of that layer's share is raised by the shift.
+// Writes the frame of the layers of these values, the first of which has this level and this
+// parent. The first number of that layer's share is raised by the shift.
 #[cycle(layers)]
 fn write_frame(
     frame: &mut [u8],
@@ -181,11 +194,14 @@ fn write_frame(
     requires some { 1 ≤ length values.now }
     requires deep { level + length values.now ≤ reporter.now.layers }
     requires width { length values.now ≡ length thresholds.now }
-    requires low { (i : ℕ) → i < length thresholds.now → MIN_THRESHOLD ≤ slice_index thresholds.now i }
-    requires high { (i : ℕ) → i < length thresholds.now → slice_index thresholds.now i ≤ max_threshold reporter.now.client.version }
+    requires low { (i : ℕ) → i < length thresholds.now →
+        MIN_THRESHOLD ≤ slice_index thresholds.now i }
+    requires high { (i : ℕ) → i < length thresholds.now →
+        slice_index thresholds.now i ≤ max_threshold reporter.now.client.version }
     requires long { length frame.old ≡ report_bytes values.now reporter.now.extra }
     requires short { length frame.old ≤ max_frame reporter.now.client.version }
-    ensures { IsFrame (report_from reporter.now.client reporter.now.extra level parent.now shift values.now thresholds.now) frame.new }
+    ensures { IsFrame (report_from reporter.now.client reporter.now.extra level parent.now shift
+        values.now thresholds.now) frame.new }
 {
     let context = Context {
         version: reporter.client.version,
@@ -221,11 +237,14 @@ fn write_plain_body(
 )
     requires deep { level + length values.now ≤ reporter.now.layers }
     requires width { length values.now ≡ length thresholds.now }
-    requires low { (i : ℕ) → i < length thresholds.now → MIN_THRESHOLD ≤ slice_index thresholds.now i }
-    requires high { (i : ℕ) → i < length thresholds.now → slice_index thresholds.now i ≤ max_threshold reporter.now.client.version }
+    requires low { (i : ℕ) → i < length thresholds.now →
+        MIN_THRESHOLD ≤ slice_index thresholds.now i }
+    requires high { (i : ℕ) → i < length thresholds.now →
+        slice_index thresholds.now i ≤ max_threshold reporter.now.client.version }
     requires long { length body.old ≡ 1 + report_bytes values.now reporter.now.extra }
     requires short { length body.old ≤ max_frame reporter.now.client.version }
-    ensures { body.new ≡ plain_body reporter.now.client reporter.now.extra level parent.now values.now thresholds.now }
+    ensures { body.new ≡ plain_body reporter.now.client reporter.now.extra level parent.now
+        values.now thresholds.now }
 {
     if values.is_empty() {
         body[0] = LAST_LAYER;

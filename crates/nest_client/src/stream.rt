@@ -22,10 +22,13 @@ pub fn make_text(
     seed: &[u8; 32],
 ) -> Result<Vec<u8>, NoMemory>
     requires thresholds { AreThresholds One thresholds.now }
-    requires width { (i : ℕ) → i < length table.now → length (get_or table.now i []) ≡ length thresholds.now }
+    requires width { (i : ℕ) → i < length table.now → length (get_or table.now i [])
+        ≡ length thresholds.now }
     requires few { length table.now ≤ MAX_REPORTS }
-    ensures stream { IfOk result (λ v. v.items ≡ stream_of (table_frames table.now thresholds.now epoch seed.now)) }
-    ensures records { IfOk result (λ v. AreRecords (table_records table.now thresholds.now epoch seed.now) v.items) }
+    ensures stream { IfOk result (λ v. v.items
+        ≡ stream_of (table_frames table.now thresholds.now epoch seed.now)) }
+    ensures records { IfOk result (λ v.
+        AreRecords (table_records table.now thresholds.now epoch seed.now) v.items) }
 {
     let mut text = Vec::new(alloc);
     'rows: for i in 0..table.len() {
@@ -44,10 +47,13 @@ pub fn make_text2(
     seed: &[u8; 32],
 ) -> Result<Vec<u8>, NoMemory>
     requires thresholds { AreThresholds Two thresholds.now }
-    requires width { (i : ℕ) → i < length table.now → length (get_or table.now i ([], [])).0 ≡ length thresholds.now }
+    requires width { (i : ℕ) → i < length table.now → length (get_or table.now i ([], [])).0
+        ≡ length thresholds.now }
     requires few { length table.now ≤ MAX_REPORTS }
-    ensures stream { IfOk result (λ v. v.items ≡ stream_of (table2_frames table.now thresholds.now epoch seed.now)) }
-    ensures records { IfOk result (λ v. AreRecords (table2_records table.now thresholds.now epoch seed.now) v.items) }
+    ensures stream { IfOk result (λ v. v.items
+        ≡ stream_of (table2_frames table.now thresholds.now epoch seed.now)) }
+    ensures records { IfOk result (λ v.
+        AreRecords (table2_records table.now thresholds.now epoch seed.now) v.items) }
 {
     let mut text = Vec::new(alloc);
     'rows: for i in 0..table.len() {

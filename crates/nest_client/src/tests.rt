@@ -73,7 +73,8 @@ fn one_to_eight_layers(rt: HostRuntime) -> Result<(), NoMemory> {
     Ok(())
 }
 
-// How many extra bytes there are, how long the report of sixteen layers then is, and the hash of all reports.
+// How many extra bytes there are, how long the report of sixteen layers then is, and the hash of
+// all reports.
 const WITH_EXTRA_BYTES: [(usize, usize, [u8; 32]); 3] = [
     (
         0,

@@ -20,13 +20,15 @@ use std::alloc::Global;
 /// A list of certificates.
 pub type Certs = CertList<Cert>;
 
-/// One certificate for each group that the reveal of the records opens for the epoch, in the order of
-/// its groups.
+/// One certificate for each group that the reveal of the records opens for the epoch, in the order
+/// of its groups.
 pub fn certs_of(alloc: Global, records: &[Record], epoch: u32) -> Result<Certs, NoMemory>
     requires { length records.now ≤ MAX_RECORDS }
     ensures certs { IfOk result (λ certs. certs ≡ certs_list epoch records.now) }
     // There is one for each group of the reveal, in their order, and an audit says Yes to each.
-    ensures complete { IfOk result (λ certs. AllZip (IsCertOf epoch (outer_rows epoch records.now)) (reveal_of epoch records.now).groups certs) }
+    ensures complete { IfOk result (λ certs.
+        AllZip (IsCertOf epoch (outer_rows epoch records.now)) (reveal_of epoch records.now).groups
+        certs) }
     ensures range { IfOk result (λ certs. All IsCert certs) }
 {
     know_records(records);

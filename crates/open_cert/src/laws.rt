@@ -13,6 +13,7 @@ ghost use Rattle.open_cert.specs.Laws.{SpeaksOf};
 /// Where an audit says Yes, every group of the certificate's level, epoch, parent check, head and
 /// points is opened to that value by that agreement, whoever made the certificate.
 pub fn audited_groups()
-    ensures { (cert : Cert) (value : List ℕ) (agree : ℕ) (rows : List Row) (row : Row) → InRange cert → verdict_of cert ≡ Yes value agree →
+    ensures { (cert : Cert) (value : List ℕ) (agree : ℕ) (rows : List Row) (row : Row) →
+        InRange cert → verdict_of cert ≡ Yes value agree →
         SpeaksOf cert rows row → outcome_at cert.epoch cert.level rows row ≡ Opened value agree }
 {}

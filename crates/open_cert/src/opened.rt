@@ -29,7 +29,8 @@ pub(crate) fn open_level(
     requires number { level.now.number ≤ MAX_LEVEL_TWO }
     requires groups { groups.now ≡ groups_of level.now.rows }
     ensures outs { IfOk result (λ opened. AreOuts level.now groups.now opened.outs.items) }
-    ensures made { IfOk result (λ opened. opened.made.items ≡ certified_groups level.now groups.now) }
+    ensures made { IfOk result (λ opened. opened.made.items
+        ≡ certified_groups level.now groups.now) }
 {
     let mut outs = Vec::new(alloc);
     let mut made = Vec::new(alloc);

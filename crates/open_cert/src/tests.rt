@@ -3,7 +3,8 @@ use cert_audit::{audit, cert_bytes};
 use star_io::{Bytes, Record};
 use std::test::Fail;
 
-// The reports of clients 0 and 1 for the value `red` with threshold 2, for epoch 1 and the seed of zeros.
+// The reports of clients 0 and 1 for the value `red` with threshold 2, for epoch 1 and the seed of
+// zeros.
 const FIRST: &[u8; 141] = b"\
     \x53\x54\x01\x00\x00\x00\x00\x01\x00\x02\x06\xb8\xe0\xad\xa0\xf1\x3d\x91\x0b\x79\xc5\x9d\x12\x73\
     \x28\x79\x08\x81\xd8\xd7\xcf\x3f\xcb\x23\x03\x56\xf5\xca\xe5\xcc\xc5\x8f\xf6\x7d\x67\x87\x17\xbd\

@@ -80,8 +80,11 @@ fn blend_places(coefficients: &mut [Fe], reach: usize, c: Fe, d: Fe, other: &[Fe
     requires within { reach ≤ length coefficients.old }
     requires other { reach ≤ length other.now }
     ensures elements { AreElements coefficients.new }
-    ensures blend { (i : ℕ) → i < reach → slice_index coefficients.new i ≡ field_sum (field_product (slice_index coefficients.old i) c) (field_product (slice_index other.now i) d) }
-    ensures rest { (i : ℕ) → reach ≤ i → slice_index coefficients.new i ≡ slice_index coefficients.old i }
+    ensures blend { (i : ℕ) → i < reach → slice_index coefficients.new i
+        ≡ field_sum (field_product (slice_index coefficients.old i) c)
+        (field_product (slice_index other.now i) d) }
+    ensures rest { (i : ℕ) → reach ≤ i → slice_index coefficients.new i
+        ≡ slice_index coefficients.old i }
 {
     for i in 0..reach {
         coefficients[i] = sum_of_two(coefficients[i], c, other[i], d);
@@ -106,7 +109,8 @@ fn column(f: &[Fe], n: usize, g: &[Fe], m: usize, reversed: &[Fe], t: usize) -> 
     requires place { t + 1 < n + m }
     requires first_below { HasDegreeBelow f.now n }
     requires second_below { HasDegreeBelow g.now m }
-    requires reversed { (i : ℕ) → i < m → slice_index reversed.now i ≡ slice_index g.now (m - 1 - i) }
+    requires reversed { (i : ℕ) → i < m →
+        slice_index reversed.now i ≡ slice_index g.now (m - 1 - i) }
     ensures product { result ≡ product_at f.now g.now t }
     ensures below { result < MODULUS }
 {
@@ -153,11 +157,13 @@ fn add_columns(out: &mut [Fe], f: &[Fe], n: usize, g: &[Fe], m: usize, reversed:
     requires second { m ≤ length reversed.now }
     requires first_below { HasDegreeBelow f.now n }
     requires second_below { HasDegreeBelow g.now m }
-    requires reversed { (i : ℕ) → i < m → slice_index reversed.now i ≡ slice_index g.now (m - 1 - i) }
+    requires reversed { (i : ℕ) → i < m →
+        slice_index reversed.now i ≡ slice_index g.now (m - 1 - i) }
     requires room { n + m - 1 ≤ length out.old }
     requires elements { AreElements out.old }
     ensures elements { AreElements out.new }
-    ensures sum { (i : ℕ) → i < n + m - 1 → slice_index out.new i ≡ field_sum (slice_index out.old i) (product_at f.now g.now i) }
+    ensures sum { (i : ℕ) → i < n + m - 1 →
+        slice_index out.new i ≡ field_sum (slice_index out.old i) (product_at f.now g.now i) }
     ensures rest { (i : ℕ) → n + m - 1 ≤ i → slice_index out.new i ≡ slice_index out.old i }
 {
     for t in 0..n + m - 1 {

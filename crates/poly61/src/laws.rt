@@ -11,13 +11,15 @@ ghost use Rattle.poly61.specs.Vanishing.{vanishing_of, difference_product, IsVan
 #[tactic(auto, using(crate::proofs::PolynomialLaws::value_is_sum))]
 pub fn value_is_sum()
     ensures { (f : List ℕ) (x : ℕ) → AreElements f →
-        value f x ≡ field_total (length f) (λ i. field_product (slice_index f i) (field_power x i)) }
+        value f x ≡ field_total (length f) (λ i.
+        field_product (slice_index f i) (field_power x i)) }
 {}
 
 /// A nonzero polynomial of degree d has at most d roots.
 #[tactic(auto, using(crate::proofs::PolynomialLaws::roots_are_few))]
 pub fn roots_are_few()
-    ensures { (f xs : List ℕ) (d : ℕ) → AreElements f → AreElements xs → AreDistinct xs → HasDegree f d →
+    ensures { (f xs : List ℕ) (d : ℕ) → AreElements f → AreElements xs → AreDistinct xs →
+        HasDegree f d →
         All (λ x. value f x ≡ 0) xs → length xs ≤ d }
 {}
 
@@ -46,7 +48,8 @@ pub fn vanishing_value()
 /// The product of the (x - a) over n points has degree n, and its last coefficient is 1.
 #[tactic(auto, using(crate::proofs::PolynomialLaws::vanishing_degree))]
 pub fn vanishing_degree()
-    ensures { (xs : List ℕ) → HasDegree (vanishing_of xs) (length xs) × (slice_index (vanishing_of xs) (length xs) ≡ 1) }
+    ensures { (xs : List ℕ) → HasDegree (vanishing_of xs) (length xs)
+        × (slice_index (vanishing_of xs) (length xs) ≡ 1) }
 {}
 
 /// The product of the (x - a) vanishes at each of the points.

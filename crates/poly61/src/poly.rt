@@ -57,8 +57,8 @@ impl Poly {
         self.coefficients.len()
     }
 
-    /// Makes it known in proofs that each coefficient is below the modulus, as `know_elements` does of
-    /// a slice.
+    /// Makes it known in proofs that each coefficient is below the modulus, as `know_elements` does
+    /// of a slice.
     pub fn know(&self)
         ensures { AreElements self.now }
     {
@@ -134,7 +134,8 @@ impl Poly {
         value_in_blocks(&self.coefficients, self.places, powers, top, x)
     }
 
-    /// Makes it c · itself + d · other, where there is room. It may answer true for rooms that differ.
+    /// Makes it c · itself + d · other, where there is room. It may answer true for rooms that
+    /// differ.
     pub fn blend(&mut self, c: Fe, d: Fe, other: &Poly) -> bool
         ensures room { length self.new ≡ length self.old }
         ensures one_room { length other.now ≡ length self.old → IsTrue result }
@@ -156,11 +157,12 @@ impl Poly {
         true
     }
 
-    /// Adds the product of f and g, where there is room. `work` needs room for g. It may answer true in
-    /// less room, where the highest coefficients are 0.
+    /// Adds the product of f and g, where there is room. `work` needs room for g. It may answer
+    /// true in less room, where the highest coefficients are 0.
     pub fn add_product(&mut self, f: &Poly, g: &Poly, work: &mut [Fe]) -> bool
         ensures room { length self.new ≡ length self.old }
-        ensures fits { length f.now + length g.now ≤ length self.old + 1 → length g.now ≤ length work.old → IsTrue result }
+        ensures fits { length f.now + length g.now ≤ length self.old + 1 →
+            length g.now ≤ length work.old → IsTrue result }
         ensures kept { result ≡ false → self.new ≡ self.old }
         ensures product { IsTrue result → AddsProduct self.old self.new f.now g.now }
     {
@@ -194,7 +196,8 @@ impl Poly {
     /// Makes it these places of the other one, where there is room.
     pub(crate) fn copy_places(&mut self, other: &Poly, from: usize, to: usize) -> bool
         ensures order { IsTrue result → from ≤ to }
-        ensures places { IsTrue result → (i : ℕ) → i < to - from → slice_index self.new i ≡ slice_index other.now (from + i) }
+        ensures places { IsTrue result → (i : ℕ) → i < to - from →
+            slice_index self.new i ≡ slice_index other.now (from + i) }
         ensures below { IsTrue result → HasDegreeBelow self.new (to - from) }
     {
         if from > to || to > other.coefficients.len() || to - from > self.coefficients.len() {
@@ -349,7 +352,8 @@ impl Poly {
         ensures passes { value self.new x ≡ y }
         ensures keeps { (z : ℕ) → value work.old z ≡ 0 → value self.new z ≡ value self.old z }
         ensures work { IsLinearMultiple work.new work.old x 0 }
-        ensures below { (n : ℕ) → HasDegreeBelow work.old n → HasDegreeBelow self.old n → HasDegreeBelow self.new n }
+        ensures below { (n : ℕ) → HasDegreeBelow work.old n → HasDegreeBelow self.old n →
+            HasDegreeBelow self.new n }
     {
         self.know();
         y.know_element();

@@ -79,8 +79,8 @@ impl Level {
         })
     }
 
-    // Whether the halves of these factors fit. A level that is much larger would cost more, since all
-    // its room is filled anew for each product.
+    // Whether the halves of these factors fit. A level that is much larger would cost more, since
+    // all its room is filled anew for each product.
     fn has_room(&self, f: &Poly, g: &Poly) -> bool {
         half_of(f, g) <= self.f_low.room()
     }

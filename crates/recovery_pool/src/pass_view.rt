@@ -1,4 +1,5 @@
-//! What the rule of the ticket word is about. No value of these types is kept when the program runs.
+//! What the rule of the ticket word is about. No value of these types is kept when the program
+//! runs.
 
 use std::collections::LinkedList;
 

@@ -24,7 +24,8 @@ pub fn decode_view(bytes: &[u8]) -> Result<FrameView<'_>, Fault>
 
     // Else it is the one fault of these bytes.
     ensures fault { IfErr result (λ f. FaultAt bytes.now f.kind f.at) }
-    ensures one { (kind : FaultKind) (at : ℕ) → FaultAt bytes.now kind at → IsErrOf result (record { kind = kind; at = at }) }
+    ensures one { (kind : FaultKind) (at : ℕ) → FaultAt bytes.now kind at →
+        IsErrOf result (record { kind = kind; at = at }) }
 {
     if let Some(at) = passed_limit(bytes) {
         return Err(Fault {
@@ -40,7 +41,8 @@ pub fn decode_view(bytes: &[u8]) -> Result<FrameView<'_>, Fault>
     Ok(FrameView { parts, sealed })
 }
 
-// The limit that the bytes pass, where they are too long for a frame: a frame of version 1 has a lower one.
+// The limit that the bytes pass, where they are too long for a frame: a frame of version 1 has a
+// lower one.
 fn passed_limit(bytes: &[u8]) -> Option<u32>
     ensures { result ≡ passed_limit bytes.now }
 {

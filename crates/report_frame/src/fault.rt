@@ -69,8 +69,8 @@ pub struct Fault {
     pub at: u32,
 }
 
-/// A fault while a frame is read. Its place is as wide as a length, so that a result of it and one of
-/// slices lie in memory alike: with a `Fault` in its place each field waits for the one before.
+/// A fault while a frame is read. Its place is as wide as a length, so that a result of it and one
+/// of slices lie in memory alike: with a `Fault` in its place each field waits for the one before.
 #[derive(Clone, Copy)]
 pub(crate) struct Misread {
     pub(crate) kind: FaultKind,

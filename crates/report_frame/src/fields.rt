@@ -79,7 +79,10 @@ pub(crate) fn read_u16(
 
 /// Any number of four bytes.
 pub(crate) fn read_u32(bytes: &[u8], at: usize) -> Result<(u32, &[u8]), Misread>
-    ensures { Reads (λ x. (x.0, x.1.now)) result (number_at FourBytes FaultKind.Truncated 0 (2 ^ 32 - 1) at bytes.now) }
+    ensures { Reads (λ x. (
+      x.0,
+      x.1.now,
+    )) result (number_at FourBytes FaultKind.Truncated 0 (2 ^ 32 - 1) at bytes.now) }
 {
     let (front, rest) = read_bytes(bytes, at, 4)?;
     Ok((
@@ -95,7 +98,10 @@ pub(crate) fn read_element(
     kind: FaultKind,
     low: u64,
 ) -> Result<(u64, &[u8]), Misread>
-    ensures { Reads (λ x. (x.0, x.1.now)) result (number_at EightBytes kind low (MODULUS - 1) at bytes.now) }
+    ensures { Reads (λ x. (
+      x.0,
+      x.1.now,
+    )) result (number_at EightBytes kind low (MODULUS - 1) at bytes.now) }
 {
     let (front, rest) = read_bytes(bytes, at, 8)?;
     let n = u64::from_be_bytes([
@@ -109,7 +115,8 @@ pub(crate) fn read_element(
 
 /// What follows the magic.
 pub(crate) fn skip_magic(bytes: &[u8]) -> Result<&[u8], Misread>
-    ensures { Reads (λ rest. (MAGIC, rest.now)) result (number_at TwoBytes FaultKind.Magic MAGIC MAGIC 0 bytes.now) }
+    ensures { Reads (λ rest.
+        (MAGIC, rest.now)) result (number_at TwoBytes FaultKind.Magic MAGIC MAGIC 0 bytes.now) }
 {
     let (_, rest) = read_u16(bytes, 0, FaultKind::Magic, MAGIC, MAGIC)?;
     Ok(rest)
@@ -118,7 +125,8 @@ pub(crate) fn skip_magic(bytes: &[u8]) -> Result<&[u8], Misread>
 /// The version, and what follows it.
 pub(crate) fn read_version(bytes: &[u8]) -> Result<(Version, &[u8]), Misread>
     ensures { Reads (λ x. (version_number x.0, x.1.now)) result
-        (number_at OneByte FaultKind.Version (version_number One) (version_number Two) VERSION_AT bytes.now) }
+        (number_at OneByte FaultKind.Version (version_number One) (version_number Two) VERSION_AT
+        bytes.now) }
 {
     let (front, rest) = read_bytes(bytes, VERSION_AT, 1)?;
     match Version::of(front[0]) {

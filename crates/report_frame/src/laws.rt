@@ -18,7 +18,8 @@ pub fn limits()
     ensures versions { (version_of 1 ≡ One) × (version_of 2 ≡ Two) }
     ensures levels { (max_level One ≡ 7) × (max_level Two ≡ 15) }
     ensures layers { (max_layers One ≡ 8) × (max_layers Two ≡ 16) × (MAX_LAYERS ≡ 16) }
-    ensures thresholds { (MIN_THRESHOLD ≡ 2) × (max_threshold One ≡ 512) × (max_threshold Two ≡ 4096) }
+    ensures thresholds { (MIN_THRESHOLD ≡ 2) × (max_threshold One ≡ 512)
+        × (max_threshold Two ≡ 4096) }
     ensures frames { (max_frame One ≡ 4096) × (max_frame Two ≡ 8192) }
     ensures bytes { (MAX_VALUE ≡ 64) × (MAX_EXTRA ≡ 255) }
     ensures sizes { (TAG_BYTES ≡ 16) × (CHECK_BYTES ≡ 32) × (NONCE_BYTES ≡ 12) × (SEAL_BYTES ≡ 32) }
@@ -39,7 +40,8 @@ pub fn one_report()
 
 /// No frame begins with another one.
 pub fn no_prefix()
-    ensures { (r q : Fields) (bytes more : List ℕ) → IsFrame r bytes → IsFrame q (bytes ++ more) → more ≡ [] }
+    ensures { (r q : Fields) (bytes more : List ℕ) → IsFrame r bytes → IsFrame q (bytes ++ more) →
+        more ≡ [] }
 {}
 
 /// Bytes are the frame of one report, or they have one fault, and never both.
@@ -50,12 +52,14 @@ pub fn frame_or_fault()
 
 /// Reading the fields in turn gives a report exactly where the bytes are its frame.
 pub fn decoded_frame()
-    ensures { (bytes : List ℕ) (r : Fields) → AreBytes bytes → (decoded bytes ≡ Ok r) ↔ IsFrame r bytes }
+    ensures { (bytes : List ℕ) (r : Fields) → AreBytes bytes → (decoded bytes ≡ Ok r)
+        ↔ IsFrame r bytes }
 {}
 
 /// Reading the fields in turn gives a fault exactly where it is the fault of the bytes.
 pub fn decoded_fault()
-    ensures { (bytes : List ℕ) (fault : Fault) → AreBytes bytes → (decoded bytes ≡ Err fault) ↔ FaultAt bytes fault.kind fault.at }
+    ensures { (bytes : List ℕ) (fault : Fault) → AreBytes bytes → (decoded bytes ≡ Err fault)
+        ↔ FaultAt bytes fault.kind fault.at }
 {}
 
 /// Each field of a frame is in its range.
@@ -67,13 +71,16 @@ pub fn in_range()
 /// Each report with fields in range has a frame, unless box and body are too long for one.
 #[tactic(auto, using(crate::proofs::FrameLaws::has_frame))]
 pub fn has_frame()
-    ensures { (r : Fields) → InRange r → FIXED_BYTES + length r.boxed + length r.body ≤ max_frame r.version → IsFrame r (spelling frame (entries r)) }
+    ensures { (r : Fields) → InRange r →
+        FIXED_BYTES + length r.boxed + length r.body ≤ max_frame r.version →
+        IsFrame r (spelling frame (entries r)) }
 {}
 
 /// The length of a frame.
 #[tactic(auto, using(crate::proofs::FrameLaws::frame_length))]
 pub fn frame_length()
-    ensures { (r : Fields) (bytes : List ℕ) → IsFrame r bytes → length bytes ≡ FIXED_BYTES + length r.boxed + length r.body }
+    ensures { (r : Fields) (bytes : List ℕ) → IsFrame r bytes →
+        length bytes ≡ FIXED_BYTES + length r.boxed + length r.body }
 {}
 
 /// The seal stands behind the sealed part.
@@ -85,5 +92,7 @@ pub fn sealed_then_seal()
 /// What stands before the seal and any seal are together the frame of the report with that seal.
 #[tactic(auto, using(crate::proofs::FrameLaws::has_sealed_frame))]
 pub fn has_sealed_frame()
-    ensures { (r : Fields) → InRange r → FIXED_BYTES + length r.boxed + length r.body ≤ max_frame r.version → IsFrame r (sealed_part r ++ r.seal) }
+    ensures { (r : Fields) → InRange r →
+        FIXED_BYTES + length r.boxed + length r.body ≤ max_frame r.version →
+        IsFrame r (sealed_part r ++ r.seal) }
 {}

@@ -1,5 +1,5 @@
-// What the types of a report's fields say of their values. These functions do nothing when they run: their clauses make
-// known what a caller of `encode` need not state.
+// What the types of a report's fields say of their values. These functions do nothing when they
+// run: their clauses make known what a caller of `encode` need not state.
 ghost use Rattle.std.specs.Prelude.{◌≡◌, ◌≤◌, ◌<◌, length, slice_index};
 ghost use Rattle.report_frame.specs.Laws.{InRange};
 ghost use Rattle.report_frame.specs.Report.{IsGood, fields_of_report};

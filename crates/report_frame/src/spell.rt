@@ -16,7 +16,8 @@ pub fn encode(alloc: Global, report: &Report) -> Result<Vec<u8>, NoMemory>
     requires { IsGood report.now }
     ensures frame { IfOk result (λ bytes. IsFrame (fields_of_report report.now) bytes.items) }
     // What reads it back gives the same fields.
-    ensures decoded { IfOk result (λ bytes. decoded bytes.items ≡ Ok (fields_of_report report.now)) }
+    ensures decoded { IfOk result (λ bytes. decoded bytes.items
+        ≡ Ok (fields_of_report report.now)) }
     // The seal stands behind the part that it is made over.
     ensures sealed { IfOk result (λ bytes.
         bytes.items ≡ sealed_part (fields_of_report report.now) ++ report.now.seal) }
@@ -35,7 +36,8 @@ pub fn encode_sealed_part(alloc: Global, report: &Report) -> Result<Vec<u8>, NoM
     requires { IsGood report.now }
     ensures part { IfOk result (λ bytes. bytes.items ≡ sealed_part (fields_of_report report.now)) }
     ensures long { IfOk result (λ bytes.
-        length bytes.items ≡ FIXED_BYTES - SEAL_BYTES + length report.now.head.boxed + length report.now.body) }
+        length bytes.items ≡ FIXED_BYTES - SEAL_BYTES + length report.now.head.boxed + length
+        report.now.body) }
 {
     let boxed = report.head.boxed.as_slice();
     let body = report.body.as_slice();
@@ -51,7 +53,8 @@ pub fn encode_sealed_part(alloc: Global, report: &Report) -> Result<Vec<u8>, NoM
 // The fields before the length of the box, with room for the whole frame.
 fn spell_front(alloc: Global, report: &Report) -> Result<Vec<u8>, NoMemory>
     requires { IsGood report.now }
-    ensures front { IfOk result (λ bytes. bytes.items ≡ spelling frame (front_entries (fields_of_report report.now))) }
+    ensures front { IfOk result (λ bytes. bytes.items
+        ≡ spelling frame (front_entries (fields_of_report report.now))) }
     ensures long { IfOk result (λ bytes. length bytes.items ≡ FRONT_BYTES) }
 {
     let length = FIXED_BYTES + report.head.boxed.as_slice().len() + report.body.as_slice().len();

@@ -1,3 +1,4 @@
+// Tables of the values of clients.
 ghost use Rattle.std.specs.Prelude.{◌≡◌, ◌<◌, [], ◌∷◌, ◌++◌, length, get_or, IfOk, OnOk, OnErr};
 
 use crate::value::Value;

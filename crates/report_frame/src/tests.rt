@@ -3,7 +3,8 @@ use field61::Fe;
 
 const FRONT: &[u8; 18] = b"ST\x01\x00\x00\x00\x00\x01\x00\x02\x00\x00\x00\x00\x00\x00\x00\x01";
 
-// The shortest frame: level 0, epoch 1, k 2 and x 1, with a box and a body of one byte each. All other fields are 0.
+// The shortest frame: level 0, epoch 1, k 2 and x 1, with a box and a body of one byte each. All
+// other fields are 0.
 fn shortest() -> [u8; 139] {
     let mut bytes = [0; 139];
     bytes[..18].copy_from_slice(FRONT);

@@ -9,7 +9,8 @@ use crate::value::Value;
 use crate::version::Version;
 use field61::Fe;
 
-/// A frame, by its fields. Nothing is copied: the fields of bytes are slices of those that were read.
+/// A frame, by its fields. Nothing is copied: the fields of bytes are slices of those that were
+/// read.
 #[derive(Clone, Copy)]
 pub struct FrameView<'a> {
     pub(crate) parts: Parts<'a>,

@@ -54,7 +54,8 @@ impl Line for Aux {
 
 // Writes the line of each item, in order.
 pub(crate) fn push_lines<T: Line>(text: &mut String, items: &[T]) -> Result<(), AllocError>
-    ensures { OnOk result (string_bytes text.new ≡ string_bytes text.old ++ flat_map T.line items.now) }
+    ensures { OnOk result (string_bytes text.new
+        ≡ string_bytes text.old ++ flat_map T.line items.now) }
 {
     for item in items {
         item.push_to(text)?;

@@ -8,7 +8,8 @@ use std::fmt::Write;
 
 // Writes the line of each level, counted from 0.
 pub(crate) fn push_level_lines(text: &mut String, levels: &[LevelCount]) -> Result<(), AllocError>
-    ensures { OnOk result (string_bytes text.new ≡ string_bytes text.old ++ level_lines levels.now) }
+    ensures { OnOk result (string_bytes text.new
+        ≡ string_bytes text.old ++ level_lines levels.now) }
 {
     for (number, level) in levels.iter().enumerate() {
         push_level_line(text, number, level)?;
@@ -17,7 +18,8 @@ pub(crate) fn push_level_lines(text: &mut String, levels: &[LevelCount]) -> Resu
 }
 
 fn push_level_line(text: &mut String, number: usize, level: &LevelCount) -> Result<(), AllocError>
-    ensures { OnOk result (string_bytes text.new ≡ string_bytes text.old ++ level_line number level.now) }
+    ensures { OnOk result (string_bytes text.new
+        ≡ string_bytes text.old ++ level_line number level.now) }
 {
     write!(
         text,

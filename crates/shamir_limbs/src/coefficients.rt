@@ -1,3 +1,4 @@
+// The polynomials that a key is shared by.
 ghost use Rattle.std.specs.Prelude.{◌≡◌, ◌≤◌, ◌<◌, ◌-◌, [], ◌∷◌, length, get_or, slice_set, replicate, IfOk};
 ghost use Rattle.shamir_limbs.specs.Coefficients.{constants};
 ghost use Rattle.shamir_limbs.specs.Limbs.{limbs};

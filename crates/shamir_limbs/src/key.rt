@@ -1,3 +1,4 @@
+// Keys, and the limbs that they consist of.
 ghost use Rattle.std.specs.Prelude.{◌≡◌, ◌<◌, ◌↔◌, slice_index, IsSome, IfSome};
 ghost use Rattle.std.specs.Int.{w64, from_be_bytes};
 ghost use Rattle.shamir_limbs.specs.Limbs.{limbs, key_bytes, AreLimbs};

@@ -22,7 +22,8 @@ impl Model for KeyWork {
 
     ghost view = { λ w. w.limbs };
 
-    ghost invariant = { λ w. (length w.first ≡ w.limbs) × (length w.second ≡ w.limbs) × (length w.third ≡ w.limbs) };
+    ghost invariant = { λ w. (length w.first ≡ w.limbs) × (length w.second ≡ w.limbs)
+        × (length w.third ≡ w.limbs) };
 }
 
 impl KeyWork {

@@ -28,16 +28,19 @@ pub fn one_key()
 
 /// At most one triple of polynomials is a key line through points of distinct x.
 pub fn one_key_line()
-    ensures { (q0 q1 q2 r0 r1 r2 : List ℕ) (points : List Point) (k : ℕ) → AreElements (xs_of points) → AreDistinct (xs_of points) → k ≤ length points →
+    ensures { (q0 q1 q2 r0 r1 r2 : List ℕ) (points : List Point) (k : ℕ) →
+        AreElements (xs_of points) → AreDistinct (xs_of points) → k ≤ length points →
         IsKeyLine q0 q1 q2 points k → IsKeyLine r0 r1 r2 points k → AreSame q0 q1 q2 r0 r1 r2 }
 {}
 
 /// The search through all triples of polynomials of degree below k finds the key and the agreement
 /// of the key line, and nothing exactly where there is none.
 pub fn search_recovers()
-    ensures found { (points : List Point) (k : ℕ) → IfSome (key_line_of points k) (λ r. (q0 : List ℕ) × (q1 : List ℕ) × (q2 : List ℕ)
+    ensures found { (points : List Point) (k : ℕ) →
+        IfSome (key_line_of points k) (λ r. (q0 : List ℕ) × (q1 : List ℕ) × (q2 : List ℕ)
         × IsKeyLine q0 q1 q2 points k × (r ≡ recovered_from q0 q1 q2 points)) }
-    ensures only { (q0 q1 q2 : List ℕ) (points : List Point) (k : ℕ) → AreElements (xs_of points) → AreDistinct (xs_of points) → k ≤ length points →
+    ensures only { (q0 q1 q2 : List ℕ) (points : List Point) (k : ℕ) → AreElements (xs_of points) →
+        AreDistinct (xs_of points) → k ≤ length points →
         IsKeyLine q0 q1 q2 points k → key_line_of points k ≡ Some (recovered_from q0 q1 q2 points) }
     ensures none { (points : List Point) (k : ℕ) → IsNone (key_line_of points k)
         ↔ ¬ ((q0 : List ℕ) × (q1 : List ℕ) × (q2 : List ℕ) × IsKeyLine q0 q1 q2 points k) }
@@ -46,6 +49,7 @@ pub fn search_recovers()
 /// Polynomials with the limbs of a key as their values at 0 give one key of 16 bytes and one
 /// agreement.
 pub fn one_recovered()
-    ensures { (r : Recovered) (q0 q1 q2 : List ℕ) (points : List Point) → IsKey r.key.bytes → AreLimbs (values_at_zero q0 q1 q2) →
+    ensures { (r : Recovered) (q0 q1 q2 : List ℕ) (points : List Point) → IsKey r.key.bytes →
+        AreLimbs (values_at_zero q0 q1 q2) →
         IsRecoveredFrom r q0 q1 q2 points ↔ (r ≡ recovered_from q0 q1 q2 points) }
 {}

@@ -62,9 +62,12 @@ impl LimbWork {
         requires room { k ≤ length out.old }
         ensures work { self.new ≡ self.old }
         ensures room { length out.new ≡ length out.old }
-        ensures found { IsTrue result → IsDecoded out.new (xs_of points.now) (ys_of points.now limb) k }
-        ensures complete { (f : List ℕ) → IsDecoded f (xs_of points.now) (ys_of points.now limb) k → IsTrue result }
-        ensures only { (f : List ℕ) → IsDecoded f (xs_of points.now) (ys_of points.now limb) k → SameCoefficients out.new f }
+        ensures found { IsTrue result →
+            IsDecoded out.new (xs_of points.now) (ys_of points.now limb) k }
+        ensures complete { (f : List ℕ) → IsDecoded f (xs_of points.now) (ys_of points.now limb) k →
+            IsTrue result }
+        ensures only { (f : List ℕ) → IsDecoded f (xs_of points.now) (ys_of points.now limb) k →
+            SameCoefficients out.new f }
     {
         fill_xs(&mut self.xs, points);
         fill_ys(&mut self.ys, points, limb);
@@ -87,9 +90,13 @@ impl LimbWork {
         requires room { k ≤ length out.old }
         ensures work { self.new ≡ self.old }
         ensures room { length out.new ≡ length out.old }
-        ensures found { IsTrue result → IsDecodedShort out.new (xs_of points.now) (ys_of points.now limb) k }
-        ensures complete { (f : List ℕ) → IsDecodedShort f (xs_of points.now) (ys_of points.now limb) k → IsTrue result }
-        ensures only { (f : List ℕ) → IsDecodedShort f (xs_of points.now) (ys_of points.now limb) k → SameCoefficients out.new f }
+        ensures found { IsTrue result →
+            IsDecodedShort out.new (xs_of points.now) (ys_of points.now limb) k }
+        ensures complete { (f : List ℕ) →
+            IsDecodedShort f (xs_of points.now) (ys_of points.now limb) k → IsTrue result }
+        ensures only { (f : List ℕ) →
+            IsDecodedShort f (xs_of points.now) (ys_of points.now limb) k →
+            SameCoefficients out.new f }
     {
         fill_xs(&mut self.xs, points);
         fill_ys(&mut self.ys, points, limb);
@@ -114,9 +121,12 @@ impl LimbWork {
         requires room { k ≤ length out.old }
         ensures work { self.new ≡ self.old }
         ensures room { length out.new ≡ length out.old }
-        ensures found { IsTrue result → IsDecoded out.new (xs_of points.now) (ys_of points.now limb) k }
-        ensures complete { (f : List ℕ) → IsDecoded f (xs_of points.now) (ys_of points.now limb) k → IsTrue result }
-        ensures only { (f : List ℕ) → IsDecoded f (xs_of points.now) (ys_of points.now limb) k → SameCoefficients out.new f }
+        ensures found { IsTrue result →
+            IsDecoded out.new (xs_of points.now) (ys_of points.now limb) k }
+        ensures complete { (f : List ℕ) → IsDecoded f (xs_of points.now) (ys_of points.now limb) k →
+            IsTrue result }
+        ensures only { (f : List ℕ) → IsDecoded f (xs_of points.now) (ys_of points.now limb) k →
+            SameCoefficients out.new f }
     {
         if self.guess_near(first, points, limb, k, out) {
             return true;
@@ -141,7 +151,8 @@ impl LimbWork {
         ensures work { self.new ≡ self.old }
         ensures room { length out.new ≡ length out.old }
         ensures elements { AreElements (xs_of points.now) }
-        ensures found { IsTrue result → IsDecoded out.new (xs_of points.now) (ys_of points.now limb) k }
+        ensures found { IsTrue result →
+            IsDecoded out.new (xs_of points.now) (ys_of points.now limb) k }
     {
         fill_xs(&mut self.xs, points);
         fill_ys(&mut self.ys, points, limb);

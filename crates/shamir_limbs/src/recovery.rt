@@ -1,3 +1,4 @@
+// Recovering a key of its shares, though some are wrong.
 ghost use Rattle.std.specs.Prelude.{◌≡◌, ℕ, ◌+◌, ◌*◌, ◌^◌, ◌<◌, ◌≤◌, ◌↔◌, List, length, IsSome, IfSome, IsSomeAnd};
 ghost use Rattle.std.specs.Option.{option_map};
 ghost use Rattle.poly61.specs.Poly.{AreDistinct};
@@ -53,8 +54,8 @@ pub fn recover(work: &mut KeyWork, points: &[Point], k: usize) -> Option<Recover
     )
 }
 
-/// Finds what [`recover`] finds, and hands the three polynomials back, each in the room that the work
-/// had for it. Takes no memory.
+/// Finds what [`recover`] finds, and hands the three polynomials back, each in the room that the
+/// work had for it. Takes no memory.
 pub fn recover_line(mut work: KeyWork, points: &[Point], k: usize) -> Option<KeyLine>
     requires distinct { AreDistinct (xs_of points.now) }
     requires some { 1 ≤ k }
@@ -62,9 +63,12 @@ pub fn recover_line(mut work: KeyWork, points: &[Point], k: usize) -> Option<Key
     requires work { length points.now ≤ work }
     requires points { length points.now < 2 ^ 32 }
     ensures found { option_map (λ line. line.found) result ≡ key_line_of points.now k }
-    ensures line { IfSome result (λ line. IsKeyLine line.first line.second line.third points.now k) }
-    ensures from { IfSome result (λ line. line.found ≡ recovered_from line.first line.second line.third points.now) }
-    ensures room { IfSome result (λ line. (length line.first ≡ work) × (length line.second ≡ work) × (length line.third ≡ work)) }
+    ensures line { IfSome result (λ line.
+        IsKeyLine line.first line.second line.third points.now k) }
+    ensures from { IfSome result (λ line. line.found
+        ≡ recovered_from line.first line.second line.third points.now) }
+    ensures room { IfSome result (λ line. (length line.first ≡ work) × (length line.second ≡ work)
+        × (length line.third ≡ work)) }
 {
     let found = find_line(
         &mut work.limbs,
@@ -104,9 +108,11 @@ fn find_line(
     requires room { (k ≤ length first.old) × (k ≤ length second.old) × (k ≤ length third.old) }
     requires points { length points.now < 2 ^ 32 }
     ensures work { limbs.new ≡ limbs.old }
-    ensures room { (length first.new ≡ length first.old) × (length second.new ≡ length second.old) × (length third.new ≡ length third.old) }
+    ensures room { (length first.new ≡ length first.old) × (length second.new ≡ length second.old)
+        × (length third.new ≡ length third.old) }
     ensures line { IfSome result (λ r. IsKeyLine first.new second.new third.new points.now k) }
-    ensures from { IfSome result (λ r. IsRecoveredFrom r first.new second.new third.new points.now) }
+    ensures from { IfSome result (λ r.
+        IsRecoveredFrom r first.new second.new third.new points.now) }
     ensures key { IfSome result (λ r. IsKey r.key.bytes) }
     ensures only { (q0 q1 q2 : List ℕ) → IsKeyLine q0 q1 q2 points.now k
         → IsSomeAnd result (λ r. IsRecoveredFrom r q0 q1 q2 points.now) }
@@ -162,8 +168,10 @@ fn key_through(
     requires points { length points.now < 2 ^ 32 }
     ensures found { IsSome result
         ↔ (AreLimbs (values_at_zero first.now second.now third.now)
-        × (length points.now + k ≤ 2 * agreement_of_all first.now second.now third.now points.now)) }
-    ensures from { IfSome result (λ r. IsRecoveredFrom r first.now second.now third.now points.now) }
+        × (length points.now + k
+        ≤ 2 * agreement_of_all first.now second.now third.now points.now)) }
+    ensures from { IfSome result (λ r.
+        IsRecoveredFrom r first.now second.now third.now points.now) }
     ensures key { IfSome result (λ r. IsKey r.key.bytes) }
 {
     let key = key_of(&[

@@ -1,3 +1,4 @@
+// The share of a key at a point.
 ghost use Rattle.std.specs.Prelude.{◌≡◌};
 ghost use Rattle.shamir_limbs.specs.Coefficients.{values};
 

@@ -79,8 +79,8 @@ fn point(x: u64, y: [u64; 3]) -> Point
     }
 }
 
-// Each row has the y of the second limb. The first limb is on 2x + 3 but at x = 1, and the third is 5. The second limb
-// of the last row has a bit too many.
+// Each row has the y of the second limb. The first limb is on 2x + 3 but at x = 1, and the third is
+// 5. The second limb of the last row has a bit too many.
 #[test]
 fn the_key_of_four_points(rt: HostRuntime) -> Result<(), NoMemory> {
     let mut work = KeyWork::new(rt.alloc(), 4)?;

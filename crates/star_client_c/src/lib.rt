@@ -31,11 +31,17 @@ pub extern "C" fn star_client_report(
     out: &mut [u8],
     written: &mut usize,
 ) -> u32
-    ensures made { result ≡ DONE → IsReport (request version cells.now thresholds.now extra.now) epoch seed.now client (take written.new out.new) }
-    ensures length { result ≡ DONE → written.new ≡ report_length (request version cells.now thresholds.now extra.now) }
+    ensures made { result ≡ DONE →
+        IsReport (request version cells.now thresholds.now extra.now) epoch seed.now client
+        (take written.new out.new) }
+    ensures length { result ≡ DONE →
+        written.new ≡ report_length (request version cells.now thresholds.now extra.now) }
     ensures rest { result ≡ DONE → drop written.new out.new ≡ drop written.new out.old }
-    ensures good { result ≡ DONE → IsGood (request version cells.now thresholds.now extra.now) × (length seed.now ≡ 32) × (written.new ≤ length out.old) }
-    ensures fault { result ≢ DONE → IsMakingFault result (request version cells.now thresholds.now extra.now) seed.now (length out.old) }
+    ensures good { result ≡ DONE → IsGood (request version cells.now thresholds.now extra.now)
+        × (length seed.now ≡ 32) × (written.new ≤ length out.old) }
+    ensures fault { result ≢ DONE →
+        IsMakingFault result (request version cells.now thresholds.now extra.now) seed.now
+        (length out.old) }
     ensures kept { result ≢ DONE → out.new ≡ out.old }
     ensures kept_length { result ≢ DONE → written.new ≡ written.old }
 {
@@ -63,7 +69,8 @@ pub extern "C" fn star_client_report(
 }
 
 /// Writes the length of the report that `star_client_report` makes of the same into `written`. The
-/// answer is `DONE`, or the first fault in the order of the numbers, after which nothing is written.
+/// answer is `DONE`, or the first fault in the order of the numbers, after which nothing is
+/// written.
 #[unsafe(no_mangle)]
 pub extern "C" fn star_client_length(
     version: u32,
@@ -73,8 +80,10 @@ pub extern "C" fn star_client_length(
     written: &mut usize,
 ) -> u32
     ensures good { result ≡ DONE → IsGood (request version cells.now thresholds.now extra.now) }
-    ensures length { result ≡ DONE → written.new ≡ report_length (request version cells.now thresholds.now extra.now) }
-    ensures fault { result ≢ DONE → IsFault result (request version cells.now thresholds.now extra.now) }
+    ensures length { result ≡ DONE →
+        written.new ≡ report_length (request version cells.now thresholds.now extra.now) }
+    ensures fault { result ≢ DONE →
+        IsFault result (request version cells.now thresholds.now extra.now) }
     ensures kept { result ≢ DONE → written.new ≡ written.old }
 {
     match content_of(version, cells, thresholds, extra) {

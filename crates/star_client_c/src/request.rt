@@ -31,7 +31,8 @@ pub(crate) fn content_of(
     ensures version { IfOk result (λ r. r.version ≡ version_of version) }
     ensures row { IfOk result (λ r. IsRow r.row.items cells.now (length thresholds.now)) }
     ensures extra { IfOk result (λ r. r.extra ≡ extra.now) }
-    ensures fault { IfErr result (λ status. IsFault status (request version cells.now thresholds.now extra.now)) }
+    ensures fault { IfErr result (λ status.
+        IsFault status (request version cells.now thresholds.now extra.now)) }
 {
     let Some(version) = version_in(version) else {
         return Err(BAD_VERSION);
@@ -91,7 +92,8 @@ fn row_of(cells: &[u8], layers: usize) -> Option<ArrayVec<Value, MAX_LAYERS>>
 
 // The extra bytes, which version 1 has none of.
 fn extra_of(version: Version, bytes: &[u8]) -> Option<Extra>
-    ensures found { IsSome result ↔ ((length bytes.now ≤ MAX_EXTRA) × (version ≡ One → bytes.now ≡ [])) }
+    ensures found { IsSome result
+        ↔ ((length bytes.now ≤ MAX_EXTRA) × (version ≡ One → bytes.now ≡ [])) }
     ensures extra { IfSome result (λ extra. extra ≡ bytes.now) }
 {
     if version == Version::One && !bytes.is_empty() {

@@ -1,3 +1,4 @@
+// A sink for tests, over memory.
 ghost use Rattle.std.specs.Prelude.{◌≡◌, [], Some, IfOk};
 ghost use Rattle.star_io.specs.Faults.{HasCause};
 ghost use Rattle.star_io.specs.MemorySink.{named, PutsInMemory};

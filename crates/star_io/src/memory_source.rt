@@ -1,3 +1,4 @@
+// A source for tests, over memory.
 ghost use Rattle.std.specs.Prelude.{◌≡◌, length, max, slice_index_or, Some};
 ghost use Rattle.std.specs.Io.{ReadsAtMost};
 ghost use Rattle.std.specs.Io.KnownBytes.{ReadConsumes};

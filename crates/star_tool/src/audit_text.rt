@@ -59,7 +59,8 @@ fn next_cert(alloc: Global, bytes: &[u8], certs: u32) -> Result<ReadCert, Status
 // Writes the line of a certificate, and says whether its verdict is Yes.
 fn push_verdict(text: &mut String, number: u32, cert: &Cert) -> Result<bool, NoMemory>
     requires { IsCert cert.now }
-    ensures { IfOk result (λ says. WritesVerdict number cert.now says (string_bytes text.old) (string_bytes text.new)) }
+    ensures { IfOk result (λ says.
+        WritesVerdict number cert.now says (string_bytes text.old) (string_bytes text.new)) }
 {
     let verdict = audit(cert);
     match &verdict {
@@ -82,7 +83,8 @@ fn push_yes(
     value: &Value,
     agree: u32,
 ) -> Result<(), AllocError>
-    ensures { OnOk result (string_bytes text.new ≡ string_bytes text.old ++ yes_line number cert.now value.now agree) }
+    ensures { OnOk result (string_bytes text.new
+        ≡ string_bytes text.old ++ yes_line number cert.now value.now agree) }
 {
     write!(text, "{number} yes ")?;
     push_opened(text, cert, value)?;
@@ -92,7 +94,8 @@ fn push_yes(
 
 // Writes a value with the threshold and the version of its group.
 fn push_opened(text: &mut String, cert: &Cert, value: &Value) -> Result<(), AllocError>
-    ensures { OnOk result (string_bytes text.new ≡ string_bytes text.old ++ step_text (step_of cert.now value.now)) }
+    ensures { OnOk result (string_bytes text.new
+        ≡ string_bytes text.old ++ step_text (step_of cert.now value.now)) }
 {
     let step = Step {
         value: value.copy(),
@@ -105,7 +108,8 @@ fn push_opened(text: &mut String, cert: &Cert, value: &Value) -> Result<(), Allo
 
 // Writes the level of a certificate, how many points it has, and how many of them agree.
 fn push_counts(text: &mut String, cert: &Cert, agree: u32) -> Result<(), AllocError>
-    ensures { OnOk result (string_bytes text.new ≡ string_bytes text.old ++ counts_text cert.now agree) }
+    ensures { OnOk result (string_bytes text.new
+        ≡ string_bytes text.old ++ counts_text cert.now agree) }
 {
     let level = cert.level;
     let points = cert.points.len();

@@ -31,7 +31,9 @@ pub fn check_text(alloc: Global, records: &[Record]) -> Result<Vec<u8>, NoMemory
 
 // Writes the line of a record, and says whether it is a frame.
 fn push_line(text: &mut String, number: u32, entry: &Record) -> Result<bool, AllocError>
-    ensures { IfOk result (λ good. WritesLine number (finding_of entry.now) good (string_bytes text.old) (string_bytes text.new)) }
+    ensures { IfOk result (λ good.
+        WritesLine number (finding_of entry.now) good (string_bytes text.old)
+        (string_bytes text.new)) }
 {
     match entry {
         Record::Whole(bytes) => push_whole(text, number, bytes.as_slice()),
@@ -51,7 +53,9 @@ fn push_line(text: &mut String, number: u32, entry: &Record) -> Result<bool, All
 }
 
 fn push_whole(text: &mut String, number: u32, bytes: &[u8]) -> Result<bool, AllocError>
-    ensures { IfOk result (λ good. WritesLine number (finding_of (Whole bytes.now)) good (string_bytes text.old) (string_bytes text.new)) }
+    ensures { IfOk result (λ good.
+        WritesLine number (finding_of (Whole bytes.now)) good (string_bytes text.old)
+        (string_bytes text.new)) }
 {
     match decode_view(bytes) {
         Ok(view) => {
@@ -66,13 +70,15 @@ fn push_whole(text: &mut String, number: u32, bytes: &[u8]) -> Result<bool, Allo
 }
 
 fn push_refused(text: &mut String, number: u32, name: &str, at: u32) -> Result<(), AllocError>
-    ensures { OnOk result (string_bytes text.new ≡ string_bytes text.old ++ line number (Refused name.now at)) }
+    ensures { OnOk result (string_bytes text.new
+        ≡ string_bytes text.old ++ line number (Refused name.now at)) }
 {
     write!(text, "{number} refused {name} {at}\n")
 }
 
 fn push_good(text: &mut String, number: u32, view: &FrameView<'_>) -> Result<(), AllocError>
-    ensures { OnOk result (string_bytes text.new ≡ string_bytes text.old ++ line number (Good (fields_of view.now))) }
+    ensures { OnOk result (string_bytes text.new
+        ≡ string_bytes text.old ++ line number (Good (fields_of view.now))) }
 {
     push_good_head(text, number, view.version(), view.level(), view.epoch())?;
     push_good_tail(text, view.k(), view.boxed().len(), view.body().len())?;
@@ -86,7 +92,8 @@ fn push_good_head(
     level: u8,
     epoch: u32,
 ) -> Result<(), AllocError>
-    ensures { OnOk result (string_bytes text.new ≡ string_bytes text.old ++ good_head number version level epoch) }
+    ensures { OnOk result (string_bytes text.new
+        ≡ string_bytes text.old ++ good_head number version level epoch) }
 {
     write!(text, "{number} good")?;
     push_version(text, version)?;
@@ -106,7 +113,8 @@ fn push_version(text: &mut String, version: Version) -> Result<(), AllocError>
 }
 
 fn push_good_tail(text: &mut String, k: u16, boxed: usize, body: usize) -> Result<(), AllocError>
-    ensures { OnOk result (string_bytes text.new ≡ string_bytes text.old ++ good_tail k boxed body) }
+    ensures { OnOk result (string_bytes text.new
+        ≡ string_bytes text.old ++ good_tail k boxed body) }
 {
     push_number(text, " k=", u64::from(k))?;
     push_number(text, " box=", boxed as u64)?;
@@ -121,7 +129,8 @@ fn push_count_line(
     good: u32,
     refused: u32,
 ) -> Result<(), AllocError>
-    ensures { OnOk result (string_bytes text.new ≡ string_bytes text.old ++ count_line number good refused) }
+    ensures { OnOk result (string_bytes text.new
+        ≡ string_bytes text.old ++ count_line number good refused) }
 {
     push_number(text, "records=", u64::from(number))?;
     push_number(text, " good=", u64::from(good))?;
@@ -132,7 +141,8 @@ fn push_count_line(
 
 // Writes a label and a number.
 fn push_number(text: &mut String, label: &str, n: u64) -> Result<(), AllocError>
-    ensures { OnOk result (string_bytes text.new ≡ string_bytes text.old ++ (label.now ++ decimal n)) }
+    ensures { OnOk result (string_bytes text.new
+        ≡ string_bytes text.old ++ (label.now ++ decimal n)) }
 {
     write!(text, "{label}{n}")
 }

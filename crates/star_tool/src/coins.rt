@@ -14,7 +14,8 @@ pub(crate) fn seed_or_coins<C: Source>(
     coins: &mut C,
 ) -> Result<[u8; SEED_BYTES], Status>
     ensures seed { IfOk result (IsSeed given (seen C.left C.faults coins.old coins.new)) }
-    ensures given { (seed : List ℕ) → given ≡ Some seed → (result ≡ Ok seed) × (coins.new ≡ coins.old) }
+    ensures given { (seed : List ℕ) → given ≡ Some seed → (result ≡ Ok seed)
+        × (coins.new ≡ coins.old) }
     ensures reason { IfErr result (SeedReason given (seen C.left C.faults coins.old coins.new)) }
     ensures most { TakesCoins (seen C.left C.faults coins.old coins.new) }
     ensures later { C.faults coins.old ≤ C.faults coins.new }

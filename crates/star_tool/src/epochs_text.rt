@@ -9,8 +9,8 @@ use star_io::NoMemory;
 use std::alloc::{AllocError, Global};
 use std::fmt::Write;
 
-/// The sections of the epochs, in ascending order, the line of each record that belongs to no epoch,
-/// and a last line that counts.
+/// The sections of the epochs, in ascending order, the line of each record that belongs to no
+/// epoch, and a last line that counts.
 #[tactic(auto, unfolding(crate::specs::EpochsText::epochs_text_of))]
 pub fn epochs_text(alloc: Global, epochs: &EpochsOut) -> Result<Vec<u8>, NoMemory>
     ensures { IfOk result (λ text. text.items ≡ epochs_text_of epochs.now) }
@@ -47,7 +47,8 @@ fn push_section(alloc: Global, text: &mut Vec<u8>, part: &EpochPart) -> Result<(
 
 // Writes the line of each stray, in order.
 fn push_stray_lines(text: &mut String, strays: &[Stray]) -> Result<(), AllocError>
-    ensures { OnOk result (string_bytes text.new ≡ string_bytes text.old ++ flat_map stray_line strays.now) }
+    ensures { OnOk result (string_bytes text.new
+        ≡ string_bytes text.old ++ flat_map stray_line strays.now) }
 {
     for stray in strays {
         push_stray_line(text, stray)?;
@@ -62,7 +63,8 @@ fn push_stray_line(text: &mut String, stray: &Stray) -> Result<(), AllocError>
 }
 
 fn push_epochs_line(text: &mut String, epochs: &EpochsOut) -> Result<(), AllocError>
-    ensures { OnOk result (string_bytes text.new ≡ string_bytes text.old ++ epochs_line epochs.now) }
+    ensures { OnOk result (string_bytes text.new
+        ≡ string_bytes text.old ++ epochs_line epochs.now) }
 {
     let parts = epochs.parts.len();
     let strays = epochs.strays.len();

@@ -12,8 +12,8 @@ use layer_walk::Walk;
 use star_io::{Failed, InputError, MAX_RECORDS, ReaderState, RecordReader, Source};
 use std::alloc::Global;
 
-/// The walk over all the records of a source, for an epoch. Each record is taken as it comes, and the
-/// list of them is not kept.
+/// The walk over all the records of a source, for an epoch. Each record is taken as it comes, and
+/// the list of them is not kept.
 ///
 /// `TooMany` where a byte follows the last record that a stream may have: that byte is taken, and
 /// nothing after it.
@@ -51,8 +51,8 @@ pub(crate) fn walk_over<S: Source>(
     Err(InputError::TooMany)
 }
 
-/// The book of all the records of a source, for an epoch. Each record is counted as it comes, and the
-/// list of them is not kept.
+/// The book of all the records of a source, for an epoch. Each record is counted as it comes, and
+/// the list of them is not kept.
 ///
 /// `TooMany` is that of [`walk_over`].
 pub(crate) fn book_over<S: Source>(

@@ -1,3 +1,4 @@
+// A source over a file.
 ghost use Rattle.std.specs.Prelude.{◌≡◌, None, option_and_then};
 ghost use Rattle.std.specs.Io.{ReadsAtMost};
 ghost use Rattle.std.specs.Io.KnownBytes.{ReadConsumes};

@@ -1,5 +1,6 @@
 //! Laws of the commands: what a refusal of their input means, and what they tell. Each
-//! function does nothing: its clauses are facts about the definitions that the contract of `run` cites.
+//! function does nothing: its clauses are facts about the definitions that the contract of `run`
+//! cites.
 ghost use Rattle.std.specs.Prelude.{◌≡◌, ◌↔◌, ℕ, List, Option, None, Some, Ok, Err, ◌<◌, ◌^◌, ◌++◌, [], length, All, true};
 ghost use Rattle.std.specs.List.{flat_map};
 ghost use Rattle.star_io.specs.Bytes.{AreBytes};
@@ -46,20 +47,22 @@ pub fn check_refuses()
         refusal_of Check bytes ≡ Some status → status ≡ Status.TooMany }
 {}
 
-/// `reveal` refuses exactly the streams that `check` refuses. Its output is the text of what the records
-/// tell for the epoch, whatever the number of workers.
+/// `reveal` refuses exactly the streams that `check` refuses. Its output is the text of what the
+/// records tell for the epoch, whatever the number of workers.
 #[tactic(auto, using(crate::proofs::StreamLemmas::too_many_means, crate::proofs::StreamLemmas::too_many_only))]
 pub fn reveal_tells()
     ensures too_many { (epoch workers : ℕ) (bytes : List ℕ) → AreBytes bytes →
-        (refusal_of (Reveal epoch workers) bytes ≡ Some Status.TooMany) ↔ HasMoreThan MAX_RECORDS bytes }
+        (refusal_of (Reveal epoch workers) bytes ≡ Some Status.TooMany)
+        ↔ HasMoreThan MAX_RECORDS bytes }
     ensures only { (epoch workers : ℕ) (bytes : List ℕ) (status : Status) →
         refusal_of (Reveal epoch workers) bytes ≡ Some status → status ≡ Status.TooMany }
     ensures text { (epoch workers : ℕ) (bytes seed : List ℕ) →
-        output_of (Reveal epoch workers) bytes seed ≡ text_of (reveal_of epoch (stream_records bytes)) }
+        output_of (Reveal epoch workers) bytes seed
+        ≡ text_of (reveal_of epoch (stream_records bytes)) }
 {}
 
-/// `gen` refuses nothing. Its output is the summary of what the records of a stream for trials tell for
-/// their epoch, whatever the number of workers.
+/// `gen` refuses nothing. Its output is the summary of what the records of a stream for trials tell
+/// for their epoch, whatever the number of workers.
 pub fn gen_tells()
     ensures good { (number reports liars workers : ℕ) (bytes : List ℕ) →
         refusal_of (Gen number reports liars workers) bytes ≡ None }
@@ -71,13 +74,18 @@ pub fn gen_tells()
 /// `make` refuses exactly what is too much for a table, and else what has a bad place.
 #[tactic(auto, using(crate::proofs::MakeLemmas::too_many_means, crate::proofs::MakeLemmas::bad_means, crate::proofs::MakeLemmas::none_means))]
 pub fn make_refuses()
-    ensures too_many { (epoch : ℕ) (version : Version) (thresholds bytes : List ℕ) (given : Option (List ℕ)) →
-        (refusal_of (Make epoch version thresholds given) bytes ≡ Some Status.TooMany) ↔ HasTooMuch bytes }
-    ensures bad { (epoch row column : ℕ) (version : Version) (thresholds bytes : List ℕ) (given : Option (List ℕ)) →
+    ensures too_many { (epoch : ℕ) (version : Version) (thresholds bytes : List ℕ)
+        (given : Option (List ℕ)) →
+        (refusal_of (Make epoch version thresholds given) bytes ≡ Some Status.TooMany)
+        ↔ HasTooMuch bytes }
+    ensures bad { (epoch row column : ℕ) (version : Version) (thresholds bytes : List ℕ)
+        (given : Option (List ℕ)) →
         (refusal_of (Make epoch version thresholds given) bytes ≡ Some (Status.BadTable row column))
         ↔ HasBadCell version thresholds bytes row column }
-    ensures good { (epoch : ℕ) (version : Version) (thresholds bytes : List ℕ) (given : Option (List ℕ)) →
-        (refusal_of (Make epoch version thresholds given) bytes ≡ None) ↔ IsTableText version thresholds bytes }
+    ensures good { (epoch : ℕ) (version : Version) (thresholds bytes : List ℕ)
+        (given : Option (List ℕ)) →
+        (refusal_of (Make epoch version thresholds given) bytes ≡ None)
+        ↔ IsTableText version thresholds bytes }
 {}
 
 /// `selftest` refuses exactly where a vector differs, and names the first one.
@@ -89,26 +97,37 @@ pub fn self_test_refuses()
         first_differing vectors ≡ None → refusal_of SelfTest bytes ≡ None }
 {}
 
-/// `expect` refuses exactly what `make` refuses in version 1. Where its output says that the table is
-/// clear, the stream of `make` with the same options and table reveals what it foretells: the `open`
-/// lines of `expect` (`lines`) are those of `reveal` (`reveal`), nothing is refused, and no group is
-/// without a line or has a bad value (`alone`).
+/// `expect` refuses exactly what `make` refuses in version 1. Where its output says that the table
+/// is clear, the stream of `make` with the same options and table reveals what it foretells: the
+/// `open` lines of `expect` (`lines`) are those of `reveal` (`reveal`), nothing is refused, and no
+/// group is without a line or has a bad value (`alone`).
 pub fn expect_foretells()
     ensures refused { (epoch : ℕ) (thresholds seed bytes : List ℕ) →
-        refusal_of (Expect epoch thresholds seed) bytes ≡ refusal_of (Make epoch One thresholds (Some seed)) bytes }
-    ensures lines { (epoch : ℕ) (thresholds seed bytes drawn : List ℕ) → epoch < 2 ^ 32 → AreThresholds One thresholds →
-        refusal_of (Expect epoch thresholds seed) bytes ≡ None → SaysClear (output_of (Expect epoch thresholds seed) bytes drawn) →
-        let revealed = reveal_of epoch (stream_records (output_of (Make epoch One thresholds (Some seed)) bytes drawn)) in
-        output_of (Expect epoch thresholds seed) bytes drawn ≡ flat_map open_line revealed.groups ++ expect_line (length revealed.groups) true }
-    ensures reveal { (epoch workers : ℕ) (thresholds seed bytes drawn other : List ℕ) → epoch < 2 ^ 32 → AreThresholds One thresholds →
-        refusal_of (Expect epoch thresholds seed) bytes ≡ None → SaysClear (output_of (Expect epoch thresholds seed) bytes drawn) →
+        refusal_of (Expect epoch thresholds seed) bytes
+        ≡ refusal_of (Make epoch One thresholds (Some seed)) bytes }
+    ensures lines { (epoch : ℕ) (thresholds seed bytes drawn : List ℕ) → epoch < 2 ^ 32 →
+        AreThresholds One thresholds →
+        refusal_of (Expect epoch thresholds seed) bytes ≡ None →
+        SaysClear (output_of (Expect epoch thresholds seed) bytes drawn) →
+        let revealed = reveal_of epoch (stream_records
+        (output_of (Make epoch One thresholds (Some seed)) bytes drawn)) in
+        output_of (Expect epoch thresholds seed) bytes drawn ≡ flat_map open_line revealed.groups
+        ++ expect_line (length revealed.groups) true }
+    ensures reveal { (epoch workers : ℕ) (thresholds seed bytes drawn other : List ℕ) →
+        epoch < 2 ^ 32 → AreThresholds One thresholds →
+        refusal_of (Expect epoch thresholds seed) bytes ≡ None →
+        SaysClear (output_of (Expect epoch thresholds seed) bytes drawn) →
         let stream = output_of (Make epoch One thresholds (Some seed)) bytes drawn in
         let revealed = reveal_of epoch (stream_records stream) in
         output_of (Reveal epoch workers) stream other
-        ≡ flat_map open_line revealed.groups ++ level_lines revealed.levels ++ flat_map aux_line revealed.aux ++ last_line revealed }
-    ensures alone { (epoch : ℕ) (thresholds seed bytes drawn : List ℕ) → epoch < 2 ^ 32 → AreThresholds One thresholds →
-        refusal_of (Expect epoch thresholds seed) bytes ≡ None → SaysClear (output_of (Expect epoch thresholds seed) bytes drawn) →
-        let revealed = reveal_of epoch (stream_records (output_of (Make epoch One thresholds (Some seed)) bytes drawn)) in
+        ≡ flat_map open_line revealed.groups ++ level_lines revealed.levels
+        ++ flat_map aux_line revealed.aux ++ last_line revealed }
+    ensures alone { (epoch : ℕ) (thresholds seed bytes drawn : List ℕ) → epoch < 2 ^ 32 →
+        AreThresholds One thresholds →
+        refusal_of (Expect epoch thresholds seed) bytes ≡ None →
+        SaysClear (output_of (Expect epoch thresholds seed) bytes drawn) →
+        let revealed = reveal_of epoch (stream_records
+        (output_of (Make epoch One thresholds (Some seed)) bytes drawn)) in
         (revealed.refusals ≡ []) × All IsClean revealed.levels }
 {}
 
@@ -116,7 +135,8 @@ pub fn expect_foretells()
 #[tactic(auto, using(crate::proofs::StreamLemmas::too_many_means, crate::proofs::StreamLemmas::too_many_only))]
 pub fn book_tells()
     ensures too_many { (epoch : ℕ) (bytes : List ℕ) → AreBytes bytes →
-        (refusal_of (BookCommand epoch) bytes ≡ Some Status.TooMany) ↔ HasMoreThan MAX_RECORDS bytes }
+        (refusal_of (BookCommand epoch) bytes ≡ Some Status.TooMany)
+        ↔ HasMoreThan MAX_RECORDS bytes }
     ensures only { (epoch : ℕ) (bytes : List ℕ) (status : Status) →
         refusal_of (BookCommand epoch) bytes ≡ Some status → status ≡ Status.TooMany }
     ensures bytes { (epoch : ℕ) (bytes seed : List ℕ) →
@@ -125,7 +145,8 @@ pub fn book_tells()
 
 /// `merge` refuses what has no sum of books, and says why; else its output is the sum.
 pub fn merge_tells()
-    ensures fault { (epoch : ℕ) (bytes : List ℕ) (fault : MergeFault) → merged epoch bytes ≡ Err fault →
+    ensures fault { (epoch : ℕ) (bytes : List ℕ) (fault : MergeFault) →
+        merged epoch bytes ≡ Err fault →
         refusal_of (Merge epoch) bytes ≡ Some (fault_status fault) }
     ensures good { (epoch : ℕ) (bytes : List ℕ) (sum : Book) → merged epoch bytes ≡ Ok sum →
         refusal_of (Merge epoch) bytes ≡ None }
@@ -133,17 +154,18 @@ pub fn merge_tells()
         output_of (Merge epoch) bytes seed ≡ spelling sum }
 {}
 
-/// `openbook` refuses what `merge` refuses; else its output is the text of what the records of the sum
-/// tell, whatever the number of workers.
+/// `openbook` refuses what `merge` refuses; else its output is the text of what the records of the
+/// sum tell, whatever the number of workers.
 pub fn open_book_tells()
     ensures refused { (epoch workers : ℕ) (bytes : List ℕ) →
         refusal_of (OpenBook epoch workers) bytes ≡ refusal_of (Merge epoch) bytes }
-    ensures text { (epoch workers : ℕ) (bytes seed : List ℕ) (sum : Book) → merged epoch bytes ≡ Ok sum →
+    ensures text { (epoch workers : ℕ) (bytes seed : List ℕ) (sum : Book) →
+        merged epoch bytes ≡ Ok sum →
         output_of (OpenBook epoch workers) bytes seed ≡ text_of (reveal_of epoch (records_of sum)) }
 {}
 
-/// `certify` refuses exactly the streams that `check` refuses. Its output is the certificates of what the
-/// records open for the epoch, one after the other.
+/// `certify` refuses exactly the streams that `check` refuses. Its output is the certificates of
+/// what the records open for the epoch, one after the other.
 #[tactic(auto, using(crate::proofs::StreamLemmas::too_many_means, crate::proofs::StreamLemmas::too_many_only))]
 pub fn certify_tells()
     ensures too_many { (epoch : ℕ) (bytes : List ℕ) → AreBytes bytes →
@@ -151,23 +173,25 @@ pub fn certify_tells()
     ensures only { (epoch : ℕ) (bytes : List ℕ) (status : Status) →
         refusal_of (Certify epoch) bytes ≡ Some status → status ≡ Status.TooMany }
     ensures certs { (epoch : ℕ) (bytes seed : List ℕ) →
-        output_of (Certify epoch) bytes seed ≡ flat_map cert_spelling (certs_list epoch (stream_records bytes)) }
+        output_of (Certify epoch) bytes seed
+        ≡ flat_map cert_spelling (certs_list epoch (stream_records bytes)) }
 {}
 
-/// `audit` refuses exactly too many bytes, and else those that go on with something else behind some
-/// whole certificates.
+/// `audit` refuses exactly too many bytes, and else those that go on with something else behind
+/// some whole certificates.
 #[tactic(auto, using(crate::proofs::AuditLaws::too_many_means, crate::proofs::AuditLaws::none_means))]
 pub fn audit_refuses()
     ensures too_many { (bytes : List ℕ) →
         (refusal_of Audit bytes ≡ Some Status.TooMany) ↔ (MAX_CERTS_BYTES < length bytes) }
     ensures bad { (bytes : List ℕ) (cert : ℕ) (kind : CertKind) (at : ℕ) → AreBytes bytes →
-        (refusal_of Audit bytes ≡ Some (Status.BadCert cert kind at)) ↔ HasBadCert bytes cert kind at }
+        (refusal_of Audit bytes ≡ Some (Status.BadCert cert kind at))
+        ↔ HasBadCert bytes cert kind at }
     ensures good { (bytes : List ℕ) → AreBytes bytes →
         (refusal_of Audit bytes ≡ None) ↔ AreCerts bytes }
 {}
 
-/// `epochs` refuses exactly the streams that `check` refuses. Its output is the text of what the records
-/// tell for each of their epochs, whatever the number of workers.
+/// `epochs` refuses exactly the streams that `check` refuses. Its output is the text of what the
+/// records tell for each of their epochs, whatever the number of workers.
 #[tactic(auto, using(crate::proofs::StreamLemmas::too_many_means, crate::proofs::StreamLemmas::too_many_only))]
 pub fn epochs_tell()
     ensures too_many { (workers : ℕ) (bytes : List ℕ) → AreBytes bytes →
@@ -175,7 +199,8 @@ pub fn epochs_tell()
     ensures only { (workers : ℕ) (bytes : List ℕ) (status : Status) →
         refusal_of (Epochs workers) bytes ≡ Some status → status ≡ Status.TooMany }
     ensures text { (workers : ℕ) (bytes seed : List ℕ) →
-        output_of (Epochs workers) bytes seed ≡ epochs_text_of (epochs_told (stream_records bytes)) }
+        output_of (Epochs workers) bytes seed
+        ≡ epochs_text_of (epochs_told (stream_records bytes)) }
 {}
 
 /// The limits in plain numbers.

@@ -34,8 +34,8 @@ use std::thread::Threads;
 ///
 /// The words are those after the program's name. The command reads `input`, and takes a seed of
 /// `coins` where it makes reports and no seed is given. Its whole output is made before the first
-/// byte of it is told. `rt` starts the threads of the workers that open groups, and each job of theirs
-/// passes `gate` first.
+/// byte of it is told. `rt` starts the threads of the workers that open groups, and each job of
+/// theirs passes `gate` first.
 pub fn run<R: Threads + Sync, S: Source, C: Source, K: Sink, G: Gate>(
     rt: &R,
     alloc: Global,
@@ -48,46 +48,58 @@ pub fn run<R: Threads + Sync, S: Source, C: Source, K: Sink, G: Gate>(
     // Usage comes exactly where the words give no command, and then nothing is touched.
     ensures usage { result ≡ Status.Usage → command_of words.now ≡ None }
     ensures no_command { command_of words.now ≡ None
-        → ((result ≡ Status.Usage) ⊎ (result ≡ Status.NoMemory)) × (input.new ≡ input.old) × (coins.new ≡ coins.old) }
+        → ((result ≡ Status.Usage) ⊎ (result ≡ Status.NoMemory)) × (input.new ≡ input.old)
+        × (coins.new ≡ coins.old) }
 
     // Done comes only where the whole output was told. An empty one makes no call of `put`.
     ensures done { IfSome (command_of words.now) (λ command. result ≡ Status.Done
-        → (text : List ℕ) × IsOutput command (seen S.left S.faults input.old input.new) (seen C.left C.faults coins.old coins.new) text
+        → (text : List ℕ) × IsOutput command (seen S.left S.faults input.old input.new)
+        (seen C.left C.faults coins.old coins.new) text
         × Appends (K.told out.old) (K.told out.new) text × (text ≡ [] → out.new ≡ out.old)) }
 
     // A write failed only where the sink has counted it, and then a front of the output was told.
     ensures write_fault { IfSome (command_of words.now) (λ command. result ≡ Status.WriteFault
         → Rose (K.faults out.old) (K.faults out.new)
-        × ((text : List ℕ) × IsOutput command (seen S.left S.faults input.old input.new) (seen C.left C.faults coins.old coins.new) text
+        × ((text : List ℕ) × IsOutput command (seen S.left S.faults input.old input.new)
+        (seen C.left C.faults coins.old coins.new) text
         × (text ≢ []) × ((n : ℕ) × Appends (K.told out.old) (K.told out.new) (take n text)))) }
 
     // A read failed only where the object has counted it.
     ensures read_fault { IfSome (command_of words.now) (λ command. result ≡ Status.ReadFault
-        → HasReadFault command (seen S.left S.faults input.old input.new) (seen C.left C.faults coins.old coins.new)) }
+        → HasReadFault command (seen S.left S.faults input.old input.new)
+        (seen C.left C.faults coins.old coins.new)) }
 
     // Coins are too few exactly where they come to their end behind an input that isn't refused.
-    ensures short_coins { IfSome (command_of words.now) (λ command. (have : ℕ) → result ≡ Status.ShortCoins have
-        → EndsShort command (seen S.left S.faults input.old input.new) (seen C.left C.faults coins.old coins.new) have) }
+    ensures short_coins { IfSome (command_of words.now) (λ command. (have : ℕ) →
+        result ≡ Status.ShortCoins have
+        → EndsShort command (seen S.left S.faults input.old input.new)
+        (seen C.left C.faults coins.old coins.new) have) }
 
     // Each other status is the refusal of the input, and where there is one, it comes.
     ensures refused { IfSome (command_of words.now) (λ command. is_refusal result ≡ true
         → IsRefused command (seen S.left S.faults input.old input.new) result) }
     ensures found { IfSome (command_of words.now) (λ command. (bytes : List ℕ) (status : Status)
-        → Tells command (seen S.left S.faults input.old input.new) bytes → refusal_of command bytes ≡ Some status
+        → Tells command (seen S.left S.faults input.old input.new) bytes →
+        refusal_of command bytes ≡ Some status
         → (result ≡ status) ⊎ (result ≡ Status.ReadFault) ⊎ (result ≡ Status.NoMemory)) }
 
     // Where there is none, it is done or coins are too few, failures and want of memory aside.
     ensures complete { IfSome (command_of words.now) (λ command. (bytes drawn : List ℕ)
-        → Tells command (seen S.left S.faults input.old input.new) bytes → refusal_of command bytes ≡ None
+        → Tells command (seen S.left S.faults input.old input.new) bytes →
+        refusal_of command bytes ≡ None
         → OnTrue (draws command) (C.left coins.old ≡ Some drawn)
-        → (result ≡ end_of command drawn) ⊎ (result ≡ Status.ReadFault) ⊎ (result ≡ Status.WriteFault) ⊎ (result ≡ Status.NoMemory)) }
+        → (result ≡ end_of command drawn) ⊎ (result ≡ Status.ReadFault)
+        ⊎ (result ≡ Status.WriteFault) ⊎ (result ≡ Status.NoMemory)) }
 
     // What stays as it was: the output where none was put, the input of a command that reads
     // nothing, and the coins, unless a seed is drawn behind an input that isn't refused.
     ensures untouched { result ≢ Status.Done → result ≢ Status.WriteFault → out.new ≡ out.old }
-    ensures unread { IfSome (command_of words.now) (λ command. reads command ≡ false → input.new ≡ input.old) }
-    ensures coins { (coins.new ≡ coins.old) ⊎ ((command : Command) × (command_of words.now ≡ Some command)
-        × Draws command (seen S.left S.faults input.old input.new) (seen C.left C.faults coins.old coins.new) result) }
+    ensures unread { IfSome (command_of words.now) (λ command. reads command ≡ false →
+        input.new ≡ input.old) }
+    ensures coins { (coins.new ≡ coins.old)
+        ⊎ ((command : Command) × (command_of words.now ≡ Some command)
+        × Draws command (seen S.left S.faults input.old input.new)
+        (seen C.left C.faults coins.old coins.new) result) }
 
     // No count of faults falls.
     ensures input_later { S.faults input.old ≤ S.faults input.new }
@@ -114,29 +126,37 @@ fn run_command<R: Threads + Sync, S: Source, C: Source, K: Sink, G: Gate>(
     requires { HasGoodOptions command }
     ensures usage { result ≢ Status.Usage }
     ensures done { result ≡ Status.Done
-        → (text : List ℕ) × IsOutput command (seen S.left S.faults input.old input.new) (seen C.left C.faults coins.old coins.new) text
+        → (text : List ℕ) × IsOutput command (seen S.left S.faults input.old input.new)
+        (seen C.left C.faults coins.old coins.new) text
         × Appends (K.told out.old) (K.told out.new) text × (text ≡ [] → out.new ≡ out.old) }
     ensures write_fault { result ≡ Status.WriteFault
         → Rose (K.faults out.old) (K.faults out.new)
-        × ((text : List ℕ) × IsOutput command (seen S.left S.faults input.old input.new) (seen C.left C.faults coins.old coins.new) text
+        × ((text : List ℕ) × IsOutput command (seen S.left S.faults input.old input.new)
+        (seen C.left C.faults coins.old coins.new) text
         × (text ≢ []) × ((n : ℕ) × Appends (K.told out.old) (K.told out.new) (take n text))) }
     ensures read_fault { result ≡ Status.ReadFault
-        → HasReadFault command (seen S.left S.faults input.old input.new) (seen C.left C.faults coins.old coins.new) }
+        → HasReadFault command (seen S.left S.faults input.old input.new)
+        (seen C.left C.faults coins.old coins.new) }
     ensures short_coins { (have : ℕ) → result ≡ Status.ShortCoins have
-        → EndsShort command (seen S.left S.faults input.old input.new) (seen C.left C.faults coins.old coins.new) have }
+        → EndsShort command (seen S.left S.faults input.old input.new)
+        (seen C.left C.faults coins.old coins.new) have }
     ensures refused { is_refusal result ≡ true
         → IsRefused command (seen S.left S.faults input.old input.new) result }
     ensures found { (bytes : List ℕ) (status : Status)
-        → Tells command (seen S.left S.faults input.old input.new) bytes → refusal_of command bytes ≡ Some status
+        → Tells command (seen S.left S.faults input.old input.new) bytes →
+        refusal_of command bytes ≡ Some status
         → (result ≡ status) ⊎ (result ≡ Status.ReadFault) ⊎ (result ≡ Status.NoMemory) }
     ensures complete { (bytes drawn : List ℕ)
-        → Tells command (seen S.left S.faults input.old input.new) bytes → refusal_of command bytes ≡ None
+        → Tells command (seen S.left S.faults input.old input.new) bytes →
+        refusal_of command bytes ≡ None
         → OnTrue (draws command) (C.left coins.old ≡ Some drawn)
-        → (result ≡ end_of command drawn) ⊎ (result ≡ Status.ReadFault) ⊎ (result ≡ Status.WriteFault) ⊎ (result ≡ Status.NoMemory) }
+        → (result ≡ end_of command drawn) ⊎ (result ≡ Status.ReadFault)
+        ⊎ (result ≡ Status.WriteFault) ⊎ (result ≡ Status.NoMemory) }
     ensures untouched { result ≢ Status.Done → result ≢ Status.WriteFault → out.new ≡ out.old }
     ensures unread { reads command ≡ false → input.new ≡ input.old }
     ensures coins { (coins.new ≡ coins.old)
-        ⊎ Draws command (seen S.left S.faults input.old input.new) (seen C.left C.faults coins.old coins.new) result }
+        ⊎ Draws command (seen S.left S.faults input.old input.new)
+        (seen C.left C.faults coins.old coins.new) result }
     ensures input_later { S.faults input.old ≤ S.faults input.new }
     ensures coins_later { C.faults coins.old ≤ C.faults coins.new }
     ensures out_later { K.faults out.old ≤ K.faults out.new }
@@ -163,7 +183,8 @@ fn answer_of<R: Threads + Sync, S: Source, C: Source, G: Gate>(
         (seen S.left S.faults input.old input.new) (seen C.left C.faults coins.old coins.new)) }
     ensures unread { reads command ≡ false → input.new ≡ input.old }
     ensures coins { (coins.new ≡ coins.old) ⊎ Draws command
-        (seen S.left S.faults input.old input.new) (seen C.left C.faults coins.old coins.new) (ending result) }
+        (seen S.left S.faults input.old input.new) (seen C.left C.faults coins.old coins.new)
+        (ending result) }
     ensures input_later { S.faults input.old ≤ S.faults input.new }
     ensures coins_later { C.faults coins.old ≤ C.faults coins.new }
 {

@@ -48,8 +48,8 @@ pub enum Status {
         got: [u8; 32],
         wanted: [u8; 32],
     },
-    /// The bytes behind so many books are no book, and not empty: what is wrong, and where the faulty field
-    /// starts, counted from the front of these bytes.
+    /// The bytes behind so many books are no book, and not empty: what is wrong, and where the
+    /// faulty field starts, counted from the front of these bytes.
     BadBook {
         book: u32,
         kind: BookKind,
@@ -60,8 +60,8 @@ pub enum Status {
         book: u32,
         have: u32,
     },
-    /// Behind so many certificates the bytes go on, and begin with none: what is wrong with them, and
-    /// where, in bytes from there.
+    /// Behind so many certificates the bytes go on, and begin with none: what is wrong with them,
+    /// and where, in bytes from there.
     BadCert {
         cert: u32,
         kind: CertKind,

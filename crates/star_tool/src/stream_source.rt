@@ -6,8 +6,8 @@ ghost use Rattle.star_io.specs.Faults.{HasCause};
 use star_io::{Failed, Source};
 use std::marker::Model;
 
-/// A source over bytes in memory, seen as the bytes left. It never fails, and shows so: its count of
-/// faults is 0 whatever was taken.
+/// A source over bytes in memory, seen as the bytes left. It never fails, and shows so: its count
+/// of faults is 0 whatever was taken.
 #[derive(Drop)]
 pub(crate) struct StreamSource<'a> {
     left: &'a [u8],

@@ -7,7 +7,8 @@ use std::alloc::{AllocError, Global};
 use std::test::*;
 use std::thread::Threads;
 
-// The smallest frame: level 0, epoch 1, threshold 2, x 1, a box and a body of one byte, all else zero.
+// The smallest frame: level 0, epoch 1, threshold 2, x 1, a box and a body of one byte, all else
+// zero.
 fn smallest_frame() -> [u8; 139] {
     let mut frame = [0; 139];
     frame[0] = b'S';

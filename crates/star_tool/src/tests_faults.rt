@@ -1,4 +1,5 @@
-// Inputs and coins of which a take fails, outputs of which a put fails, and inputs that are cut, for each verb.
+// Inputs and coins of which a take fails, outputs of which a put fails, and inputs that are cut,
+// for each verb.
 use crate::trial_streams::{made_stream, words_in};
 use crate::{Status, run};
 use recovery_pool::NoGate;
@@ -30,7 +31,8 @@ impl<'a> Case<'a> {
     }
 }
 
-// A source of these bytes, of which each take brings at most `cut` bytes, and takes of these numbers fail.
+// A source of these bytes, of which each take brings at most `cut` bytes, and takes of these
+// numbers fail.
 fn failing(alloc: Global, bytes: &[u8], cut: usize, fails: &[u64]) -> Result<MemorySource, Fail> {
     let bytes = Vec::from_slice(alloc, bytes)?;
     let cuts = vec![in alloc; cut; MOST_TAKES as usize]?;
@@ -76,8 +78,8 @@ impl Ran {
     }
 }
 
-/// Whether a failing take of the input, whichever it is, tells nothing, and the run tells its text in
-/// which no take fails. A take brings at most `cut` bytes.
+/// Whether a failing take of the input, whichever it is, tells nothing, and the run tells its text
+/// in which no take fails. A take brings at most `cut` bytes.
 pub(crate) fn bears_failing_takes<R: Threads + Sync>(
     rt: &R,
     alloc: Global,
@@ -144,7 +146,8 @@ pub(crate) fn bears_failing_puts<R: Threads + Sync>(
     Ok(true)
 }
 
-/// How a run ends on the fronts of an input that have from `first` to `last` bytes, and what it tells.
+/// How a run ends on the fronts of an input that have from `first` to `last` bytes, and what it
+/// tells.
 #[derive(Drop)]
 pub(crate) struct Fronts<'a> {
     first: usize,
@@ -197,7 +200,8 @@ const TRIAL_TOLD: &[u8] =
 const VECTORS_TOLD: &[u8] =
     b"vector 1 ok\nvector 2 ok\nvector 3 ok\nvector 4 ok\nvector 5 ok\nvector 6 ok\nvector 7 ok\nvectors=7 ok=7\n";
 
-// The record of the report of `red` under threshold 2, in epoch 1, from client 0 with a seed of zeros.
+// The record of the report of `red` under threshold 2, in epoch 1, from client 0 with a seed of
+// zeros.
 const RED: &[u8] =
     b"\x00\x00\x00\x8d\x53\x54\x01\x00\x00\x00\x00\x01\x00\x02\x06\xb8\xe0\xad\xa0\xf1\x3d\x91\x0b\x79\xc5\x9d\x12\x73\x28\x79\x08\x81\xd8\xd7\xcf\x3f\xcb\x23\x03\x56\xf5\xca\xe5\xcc\xc5\x8f\xf6\x7d\x67\x87\x17\xbd\xf3\xb1\xda\x3e\x31\x81\x1c\xf2\xae\x3b\x44\x81\x6b\xc0\x21\x97\x30\x80\x80\x58\x60\xf2\xca\x6d\x34\x5b\xa6\xb0\x48\x39\xdd\xa5\x68\x52\xe7\x95\x5c\x27\xb0\x84\x70\x4b\x03\xf8\xd0\x5b\x40\x5d\x6a\xe5\x53\x86\xbd\x28\xbd\xd2\x19\xb8\x00\x01\x0d\x30\x52\x52\x36\x5b\x25\xa5\x7e\xdd\xc6\x95\xd8\x91\x1b\x06\xed\x8d\x86\x70\xd5\x55\x34\x75\xfe\x2e\x73\xcb\x25\x78\xd6\x40\xc0";
 

@@ -10,7 +10,8 @@ use std::thread::Threads;
 // The most bytes that a test tells.
 const ROOM: usize = 4096;
 
-/// The frames of the reports of two clients, whose one value is `red`: of these the first is the lesser one.
+/// The frames of the reports of two clients, whose one value is `red`: of these the first is the
+/// lesser one.
 pub(crate) fn two_reds<R: Threads + Sync>(
     rt: &R,
     alloc: Global,

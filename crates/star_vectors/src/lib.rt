@@ -1,4 +1,5 @@
-//! The self test: computations whose outcome is known, by a standard or at sight, done and compared.
+//! The self test: computations whose outcome is known, by a standard or at sight, done and
+//! compared.
 #![tactic(auto)]
 
 mod numbers;

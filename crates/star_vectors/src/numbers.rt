@@ -36,7 +36,8 @@ pub(crate) fn decoded(alloc: Global, xs: &[Fe], ys: &[Fe]) -> Result<[u8; 32], N
     requires distinct { AreDistinct xs.now }
     requires pairs { length xs.now ≡ length ys.now }
     requires threshold { 2 ≤ length xs.now }
-    ensures { IfOk result (λ bytes. bytes ≡ filled_up (spelled (unwrap_or (decoding_of xs.now ys.now 2) []))) }
+    ensures { IfOk result (λ bytes. bytes
+        ≡ filled_up (spelled (unwrap_or (decoding_of xs.now ys.now 2) []))) }
 {
     let mut scratch = Scratch::new(alloc, xs.len())?;
     let mut line = Poly::with_room(alloc, 2)?;

@@ -1,3 +1,4 @@
+// What a self test tells.
 ghost use Rattle.std.specs.Prelude.{◌≡◌, ◌≢◌, Err};
 ghost use Rattle.star_vectors.specs.Vectors.{vectors};
 ghost use Rattle.star_vectors.specs.Comparison.{first_differing, outcome_of};

@@ -9,8 +9,8 @@ fn every_vector_gives_what_it_must(rt: HostRuntime) {
     assert_eq!(rt; self_test(rt.alloc()), Ok(Passed { count: 7 }));
 }
 
-// The report of `red` under threshold 2, in epoch 1, from client 0 with a seed of zeros, as an implementation in Python
-// with hashlib and the package cryptography makes it.
+// The report of `red` under threshold 2, in epoch 1, from client 0 with a seed of zeros, as an
+// implementation in Python with hashlib and the package cryptography makes it.
 const RED: [u8; 141] = [
     0x53, 0x54, 0x01, 0x00, 0x00, 0x00, 0x00, 0x01, 0x00, 0x02, 0x06, 0xb8, 0xe0, 0xad, 0xa0, 0xf1,
     0x3d, 0x91, 0x0b, 0x79, 0xc5, 0x9d, 0x12, 0x73, 0x28, 0x79, 0x08, 0x81, 0xd8, 0xd7, 0xcf, 0x3f,

@@ -13,9 +13,9 @@ use report_frame::Table;
 use star_io::NoMemory;
 use std::alloc::Global;
 
-/// Whether the reports of a table keep clear of each other, row i as client i in version 1: rows that
-/// begin with the same values have different points in the layer of the last of these, and rows that
-/// differ first in one layer have different heads there.
+/// Whether the reports of a table keep clear of each other, row i as client i in version 1: rows
+/// that begin with the same values have different points in the layer of the last of these, and
+/// rows that differ first in one layer have different heads there.
 pub fn is_clear(
     alloc: Global,
     table: &Table,
@@ -24,9 +24,11 @@ pub fn is_clear(
     seed: &[u8; 32],
 ) -> Result<bool, NoMemory>
     requires thresholds { AreThresholds One thresholds.now }
-    requires width { (i : ℕ) → i < length table.now → length (get_or table.now i []) ≡ length thresholds.now }
+    requires width { (i : ℕ) → i < length table.now → length (get_or table.now i [])
+        ≡ length thresholds.now }
     requires few { length table.now ≤ MAX_REPORTS }
-    ensures clear { IfOk result (λ clear. IsTrue clear ↔ Clear table.now thresholds.now epoch seed.now) }
+    ensures clear { IfOk result (λ clear. IsTrue clear
+        ↔ Clear table.now thresholds.now epoch seed.now) }
     ensures test { IfOk result (λ clear. clear ≡ is_clear table.now thresholds.now epoch seed.now) }
 {
     each_layer_is_clear(alloc, table, thresholds, epoch, seed)
@@ -41,7 +43,8 @@ fn each_layer_is_clear(
     seed: &[u8; 32],
 ) -> Result<bool, NoMemory>
     requires thresholds { AreThresholds One thresholds.now }
-    requires width { (i : ℕ) → i < length table.now → length (get_or table.now i []) ≡ length thresholds.now }
+    requires width { (i : ℕ) → i < length table.now → length (get_or table.now i [])
+        ≡ length thresholds.now }
     requires few { length table.now ≤ MAX_REPORTS }
     ensures { IfOk result (λ clear. IsTrue clear ↔ Clear table.now thresholds.now epoch seed.now) }
 {

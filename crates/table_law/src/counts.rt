@@ -8,7 +8,8 @@ use std::alloc::Global;
 
 /// How often each number below as many as there are is one of them.
 pub(crate) fn counts_of(alloc: Global, numbers: &[u32]) -> Result<Vec<u32>, NoMemory>
-    requires below { (i : ℕ) → i < length numbers.now → slice_index numbers.now i < length numbers.now }
+    requires below { (i : ℕ) → i < length numbers.now →
+        slice_index numbers.now i < length numbers.now }
     requires few { length numbers.now ≤ MAX_REPORTS }
     ensures { IfOk result (λ counts. AreCounts numbers.now counts.items) }
 {

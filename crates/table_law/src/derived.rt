@@ -30,7 +30,8 @@ pub(crate) fn derived_at(
     requires few { length table.now ≤ MAX_REPORTS }
     requires checks { checks.now ≡ checks_before epoch thresholds.now layer table.now }
     requires firsts { firsts.now ≡ firsts_of table.now (layer + 1) }
-    ensures { IfOk result (λ derived. derived.items ≡ derived_at epoch thresholds.now layer table.now) }
+    ensures { IfOk result (λ derived. derived.items
+        ≡ derived_at epoch thresholds.now layer table.now) }
 {
     let mut derived = Vec::new(alloc);
     'rows: for i in 0..table.len() {

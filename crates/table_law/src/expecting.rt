@@ -16,11 +16,13 @@ use report_frame::Table;
 use star_io::NoMemory;
 use std::alloc::Global;
 
-/// The prefixes of a table, in the order of their paths: each list of values with which a row begins,
-/// where for each of its fronts at least as many rows begin with it as the threshold of that layer says.
+/// The prefixes of a table, in the order of their paths: each list of values with which a row
+/// begins, where for each of its fronts at least as many rows begin with it as the threshold of
+/// that layer says.
 ///
-/// Where the table is clear, they are the groups that the stream of its reports, row i as client i in
-/// version 1, reveals; nothing is refused then, and no group is without a line or has a bad value.
+/// Where the table is clear, they are the groups that the stream of its reports, row i as client i
+/// in version 1, reveals; nothing is refused then, and no group is without a line or has a bad
+/// value.
 pub fn expected(
     alloc: Global,
     table: &Table,
@@ -29,11 +31,13 @@ pub fn expected(
     seed: &[u8; 32],
 ) -> Result<OpenedGroups, NoMemory>
     requires thresholds { AreThresholds One thresholds.now }
-    requires width { (i : ℕ) → i < length table.now → length (get_or table.now i []) ≡ length thresholds.now }
+    requires width { (i : ℕ) → i < length table.now → length (get_or table.now i [])
+        ≡ length thresholds.now }
     requires few { length table.now ≤ MAX_REPORTS }
     ensures prefixes { IfOk result (λ groups. groups ≡ prefixes table.now thresholds.now) }
     ensures reveals { IfOk result (λ groups. Clear table.now thresholds.now epoch seed.now →
-        RevealsOnly groups (reveal_of epoch (table_records table.now thresholds.now epoch seed.now))) }
+        RevealsOnly groups (reveal_of epoch
+        (table_records table.now thresholds.now epoch seed.now))) }
 {
     let groups = prefixes_by_length(alloc, table, thresholds)?;
     Ok(OpenedGroups::from_vec(sorted_by_path(groups)?))

@@ -15,7 +15,8 @@ pub(crate) fn first_place<K: Ord + Drop>(
 ) -> Result<u32, NoMemory>
     ensures place { IfOk result (λ place. place ≡ unwrap_or (get K.cmp places.old key) next) }
     ensures places { OnOk result ((q : K) →
-        get K.cmp places.new q ≡ option_or (get K.cmp places.old q) (if is_eq (K.cmp key q) then Some next else None)) }
+        get K.cmp places.new q ≡ option_or (get K.cmp places.old q)
+        (if is_eq (K.cmp key q) then Some next else None)) }
 {
     match places.get(&key).copied() {
         Some(place) => Ok(place),

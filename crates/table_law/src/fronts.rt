@@ -18,8 +18,8 @@ pub(crate) struct Front {
     pub(crate) value: Value,
 }
 
-/// For each row the first one that begins with the same `layer + 1` values, by those that begin with
-/// the same `layer` values.
+/// For each row the first one that begins with the same `layer + 1` values, by those that begin
+/// with the same `layer` values.
 pub(crate) fn longer_fronts(
     alloc: Global,
     table: &Table,
@@ -30,7 +30,8 @@ pub(crate) fn longer_fronts(
     requires width { (i : ℕ) → i < length table.now → layer < length (get_or table.now i []) }
     requires few { length table.now ≤ MAX_REPORTS }
     ensures firsts { IfOk result (λ longer. longer.items ≡ firsts_of table.now (layer + 1)) }
-    ensures values { IfOk result (λ _. (i : ℕ) → i < length table.now → IsValue (value_at (get_or table.now i []) layer)) }
+    ensures values { IfOk result (λ _. (i : ℕ) → i < length table.now →
+        IsValue (value_at (get_or table.now i []) layer)) }
 {
     let mut places = BTreeMap::new(alloc);
     let mut longer = Vec::new(alloc);

@@ -17,9 +17,9 @@ pub(crate) struct HeadMark {
     pub(crate) head: Head,
 }
 
-/// Whether no two rows that begin with the same values before this layer, and with different ones in
-/// it, have the same head in it. `firsts` has the first rows that begin with the same values before
-/// it, and `longer` those that begin with the same ones up to it.
+/// Whether no two rows that begin with the same values before this layer, and with different ones
+/// in it, have the same head in it. `firsts` has the first rows that begin with the same values
+/// before it, and `longer` those that begin with the same ones up to it.
 pub(crate) fn heads_differ(
     alloc: Global,
     table: &Table,

@@ -52,7 +52,8 @@ pub(crate) fn points_differ(
     requires layer { layer < MAX_LAYERS }
     requires long { length firsts.now ≤ length points.now }
     requires few { length firsts.now ≤ MAX_REPORTS }
-    requires some { (i : ℕ) → i < length firsts.now → 1 ≤ slice_index (get_or points.now i []) layer }
+    requires some { (i : ℕ) → i < length firsts.now →
+        1 ≤ slice_index (get_or points.now i []) layer }
     ensures { IfOk result (λ differ. IsTrue differ ↔ PointsDiffer points.now layer firsts.now) }
 {
     let mut places = BTreeMap::new(alloc);

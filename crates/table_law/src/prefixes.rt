@@ -23,7 +23,8 @@ pub(crate) fn prefixes_by_length(
     thresholds: &[u16],
 ) -> Result<Vec<OpenedGroup>, NoMemory>
     requires thresholds { AreThresholds One thresholds.now }
-    requires width { (i : ℕ) → i < length table.now → length (get_or table.now i []) ≡ length thresholds.now }
+    requires width { (i : ℕ) → i < length table.now → length (get_or table.now i [])
+        ≡ length thresholds.now }
     requires few { length table.now ≤ MAX_REPORTS }
     ensures groups { IfOk result (λ groups. groups.items ≡
         joined_below (λ l. prefixes_of table.now thresholds.now (suc l)) (length thresholds.now)) }
@@ -49,7 +50,8 @@ pub(crate) fn prefixes_by_length(
     Ok(groups)
 }
 
-// For each row whether its first `layer + 1` values are open, by whether its first `layer` values are.
+// For each row whether its first `layer + 1` values are open, by whether its first `layer` values
+// are.
 fn opens_after(
     alloc: Global,
     table: &Table,
@@ -95,11 +97,13 @@ fn push_prefixes(
     requires deep { layers ≤ length thresholds.now }
     requires short { length thresholds.now ≤ MAX_STEPS }
     requires few { length table.now ≤ MAX_REPORTS }
-    requires width { (i : ℕ) → i < length table.now → length (get_or table.now i []) ≡ length thresholds.now }
+    requires width { (i : ℕ) → i < length table.now → length (get_or table.now i [])
+        ≡ length thresholds.now }
     requires firsts { firsts.now ≡ firsts_of table.now layers }
     requires counts { AreCounts firsts.now counts.now }
     requires opens { opens.now ≡ opens_of table.now thresholds.now layers }
-    ensures { OnOk result (groups.new.items ≡ groups.old.items ++ prefixes_of table.now thresholds.now layers) }
+    ensures { OnOk result (groups.new.items
+        ≡ groups.old.items ++ prefixes_of table.now thresholds.now layers) }
 {
     'rows: for i in 0..table.len() {
         if firsts[i] as usize == i && opens[i] {

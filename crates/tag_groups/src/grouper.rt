@@ -1,3 +1,4 @@
+// Grouping rows as they come.
 ghost use Rattle.std.specs.Prelude.{◌≡◌, ◌<◌, ◌-◌, ◌^◌, [], ◌∷◌, ◌++◌, length, is_ok, if◌then◌else◌, OnOk, OnErr, Some};
 ghost use Rattle.std.specs.BTreeMap.{Updates, IsUnchanged};
 ghost use Rattle.tag_groups.specs.Keys.{HasThreshold};
@@ -96,7 +97,8 @@ fn join(
     requires finds { Finds places.old groups.old.items }
     requires few { length groups.old.items < 2 ^ 32 }
     requires threshold { HasThreshold key.head }
-    ensures groups { groups.new.items ≡ (if is_ok result then joined key member groups.old.items else groups.old.items) }
+    ensures groups { groups.new.items
+        ≡ (if is_ok result then joined key member groups.old.items else groups.old.items) }
     ensures finds { Finds places.new groups.new.items }
 {
     match places.get(&key).copied() {
@@ -115,8 +117,11 @@ fn begin(
 ) -> Result<(), NoMemory>
     requires few { length groups.old.items < 2 ^ 32 }
     requires threshold { HasThreshold key.head }
-    ensures groups { groups.new.items ≡ (if is_ok result then groups.old.items ++ new_group key member ∷ [] else groups.old.items) }
-    ensures places { OnOk result (Updates key_cmp places.old places.new key (Some (length groups.old.items))) }
+    ensures groups { groups.new.items
+        ≡ (if is_ok result then groups.old.items
+        ++ new_group key member ∷ [] else groups.old.items) }
+    ensures places { OnOk result (Updates key_cmp places.old places.new key
+        (Some (length groups.old.items))) }
     ensures kept { OnErr result (IsUnchanged places.old places.new) }
 {
     let mut members = Vec::new(alloc);

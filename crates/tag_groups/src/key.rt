@@ -1,3 +1,4 @@
+// What the rows of a group have in common, as a key of a map.
 ghost use Rattle.std.specs.Prelude.{◌≡◌};
 ghost use Rattle.tag_groups.specs.Keys.{key_of, HasThreshold};
 

@@ -1,5 +1,5 @@
-//! Laws of groups and of the points left. Each function does nothing: its clause is a fact about the
-//! definitions that the other contracts cite.
+//! Laws of groups and of the points left. Each function does nothing: its clause is a fact about
+//! the definitions that the other contracts cite.
 ghost use Rattle.std.specs.Prelude.{◌≡◌, ◌≤◌, List, ℕ, length, true};
 ghost use Rattle.std.specs.List.{All, AllPairs, Contains, list_any};
 ghost use Rattle.shamir_limbs.specs.KeyLine.{AreDistinct};
@@ -23,7 +23,8 @@ pub fn members()
 pub fn one_group_for_each_key()
     ensures apart { (rows : List RowView) → AllPairs AreApart (groups_of rows) }
     ensures occurs { (rows : List RowView) → All (HasRow rows) (groups_of rows) }
-    ensures found { (rows : List RowView) (row : RowView) → Contains rows row → list_any (in_group row) (groups_of rows) ≡ true }
+    ensures found { (rows : List RowView) (row : RowView) → Contains rows row →
+        list_any (in_group row) (groups_of rows) ≡ true }
     ensures few { (rows : List RowView) → length (groups_of rows) ≤ length rows }
 {}
 

@@ -17,10 +17,12 @@ use std::alloc::Global;
 /// A list of points.
 pub type Points = Listed<Point>;
 
-/// Each point once that a member has, where no member has the same x with another y, in ascending x.
+/// Each point once that a member has, where no member has the same x with another y, in ascending
+/// x.
 pub fn points_left(alloc: Global, rows: &[Row], group: &Group) -> Result<Points, NoMemory>
     requires { All (λ place. place < length rows.now) group.now.members }
-    ensures points { IfOk result (λ points. points ≡ points_left_of (points_at rows.now group.now.members)) }
+    ensures points { IfOk result (λ points. points
+        ≡ points_left_of (points_at rows.now group.now.members)) }
     // This is what recovering a key asks of points.
     ensures few { IfOk result (λ points. length points ≤ length group.now.members) }
     ensures distinct { IfOk result (λ points. AreDistinct (xs_of points)) }

@@ -77,7 +77,8 @@ impl Row {
     pub fn view(&self) -> FrameView<'_>
         ensures report { fields_of result ≡ self.now.report }
         ensures range { InRange self.now.report }
-        ensures short { FIXED_BYTES + length self.now.report.boxed + length self.now.report.body ≤ max_frame self.now.report.version }
+        ensures short { FIXED_BYTES + length self.now.report.boxed + length self.now.report.body
+            ≤ max_frame self.now.report.version }
     {
         decode_view(self.frame.as_slice()).unwrap()
     }

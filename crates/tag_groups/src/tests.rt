@@ -6,8 +6,9 @@ use std::alloc::Global;
 
 const FRONT: &[u8; 18] = b"ST\x01\x00\x00\x00\x00\x01\x00\x02\x00\x00\x00\x00\x00\x00\x00\x01";
 
-// The reports of clients 0 and 1 for the value `red`, with threshold 2, epoch 1 and a seed of zeros: the first eight bytes of
-// their tag in either version, and for each client its x and the first number of its share in version 1.
+// The reports of clients 0 and 1 for the value `red`, with threshold 2, epoch 1 and a seed of
+// zeros: the first eight bytes of their tag in either version, and for each client its x and the
+// first number of its share in version 1.
 const TAG_ONE: u64 = 0xf67d678717bdf3b1;
 
 const TAG_TWO: u64 = 0x464e2287d20d2677;
@@ -16,7 +17,8 @@ const FIRST: (u64, u64) = (484383996276456849, 826909285009270905);
 
 const SECOND: (u64, u64) = (1098842947640981756, 1453072619224497509);
 
-// The shortest frame with this number of its version, these first eight bytes of its tag, this x and this first share.
+// The shortest frame with this number of its version, these first eight bytes of its tag, this x
+// and this first share.
 fn frame_of(version: u8, tag: u64, point: (u64, u64)) -> [u8; 139] {
     let mut bytes = [0; 139];
     bytes[..18].copy_from_slice(FRONT);

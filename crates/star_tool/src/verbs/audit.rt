@@ -19,7 +19,8 @@ pub const MAX_CERTS_BYTES: usize = 536_870_912;
 pub(crate) fn audit_output<S: Source>(alloc: Global, input: &mut S) -> Result<Vec<u8>, Status>
     ensures output { (coins : Seen) →
         IfOk result (Makes Command.Audit (seen S.left S.faults input.old input.new) coins) }
-    ensures reason { IfErr result (Reason Command.Audit (seen S.left S.faults input.old input.new) unseen) }
+    ensures reason { IfErr result (Reason Command.Audit (seen S.left S.faults input.old input.new)
+        unseen) }
     ensures later { S.faults input.old ≤ S.faults input.new }
 {
     let bytes = read_bytes(alloc, input, MAX_CERTS_BYTES)?;

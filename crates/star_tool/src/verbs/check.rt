@@ -16,7 +16,8 @@ pub(crate) const USAGE: &str = "check";
 pub(crate) fn check_output<S: Source>(alloc: Global, input: &mut S) -> Result<Vec<u8>, Status>
     ensures output { (coins : Seen) →
         IfOk result (Makes Command.Check (seen S.left S.faults input.old input.new) coins) }
-    ensures reason { IfErr result (Reason Command.Check (seen S.left S.faults input.old input.new) unseen) }
+    ensures reason { IfErr result (Reason Command.Check (seen S.left S.faults input.old input.new)
+        unseen) }
     ensures later { S.faults input.old ≤ S.faults input.new }
 {
     let records = read_records(alloc, input)?;

@@ -27,9 +27,11 @@ pub(crate) fn expect_output<S: Source>(
     input: &mut S,
 ) -> Result<Vec<u8>, Status>
     requires { AreThresholds One thresholds.now }
-    ensures output { (coins : Seen) → IfOk result (Makes (Command.Expect epoch thresholds.now seed.now)
+    ensures output { (coins : Seen) →
+        IfOk result (Makes (Command.Expect epoch thresholds.now seed.now)
         (seen S.left S.faults input.old input.new) coins) }
-    ensures reason { (coins : Seen) → IfErr result (Reason (Command.Expect epoch thresholds.now seed.now)
+    ensures reason { (coins : Seen) →
+        IfErr result (Reason (Command.Expect epoch thresholds.now seed.now)
         (seen S.left S.faults input.old input.new) coins) }
     ensures later { S.faults input.old ≤ S.faults input.new }
 {

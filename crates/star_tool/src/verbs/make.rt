@@ -36,8 +36,10 @@ pub(crate) fn make_output<S: Source, C: Source>(
         (seen S.left S.faults input.old input.new) (seen C.left C.faults coins.old coins.new)) }
     ensures reason { IfErr result (Reason (Command.Make epoch version thresholds.now given)
         (seen S.left S.faults input.old input.new) (seen C.left C.faults coins.old coins.new)) }
-    ensures coins { (coins.new ≡ coins.old) ⊎ Draws (Command.Make epoch version thresholds.now given)
-        (seen S.left S.faults input.old input.new) (seen C.left C.faults coins.old coins.new) (ending result) }
+    ensures coins { (coins.new ≡ coins.old)
+        ⊎ Draws (Command.Make epoch version thresholds.now given)
+        (seen S.left S.faults input.old input.new) (seen C.left C.faults coins.old coins.new)
+        (ending result) }
     ensures input_later { S.faults input.old ≤ S.faults input.new }
     ensures coins_later { C.faults coins.old ≤ C.faults coins.new }
 {

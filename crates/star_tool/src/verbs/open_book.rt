@@ -17,8 +17,8 @@ use std::thread::Threads;
 /// How the verb is written.
 pub(crate) const USAGE: &str = "openbook --epoch E [--workers W]";
 
-/// The text of what the records tell that the books of an input stand for. The groups of each level are
-/// opened by so many workers, and each passes the gate first.
+/// The text of what the records tell that the books of an input stand for. The groups of each level
+/// are opened by so many workers, and each passes the gate first.
 pub(crate) fn open_book_output<R: Threads + Sync, S: Source, G: Gate>(
     rt: &R,
     alloc: Global,

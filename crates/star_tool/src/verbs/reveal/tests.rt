@@ -23,8 +23,8 @@ fn tagged(alloc: Global, frame: &[u8]) -> Result<Vec<u8>, Fail> {
     frame_of(alloc, &report)
 }
 
-// The numbers name frames: those of clients 0 to 3, that of client 0 and that of client 2 with another share, and those of clients 0 and 1
-// with another tag.
+// The numbers name frames: those of clients 0 to 3, that of client 0 and that of client 2 with
+// another share, and those of clients 0 and 1 with another tag.
 #[test]
 fn a_group_opens_by_its_points(rt: HostRuntime) -> Result<(), Fail> {
     let alloc = rt.alloc();
@@ -129,7 +129,8 @@ fn a_body_is_refused_by_name(rt: HostRuntime) -> Result<(), Fail> {
     Ok(())
 }
 
-// The numbers name frames: two of version 2, two of version 1, and two of version 2 with bodies that are refused.
+// The numbers name frames: two of version 2, two of version 1, and two of version 2 with bodies
+// that are refused.
 #[test]
 fn version_2_tells_extra_bytes(rt: HostRuntime) -> Result<(), Fail> {
     let alloc = rt.alloc();

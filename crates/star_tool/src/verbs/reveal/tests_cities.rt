@@ -18,7 +18,8 @@ const OPTIONS: &str = "--epoch 7 --thresholds 20,10";
 const TOLD: &[u8] =
     b"open DE~20 points=30 agree=30 members=30\nopen DE~20/Berlin~10 points=22 agree=22 members=22\nopen FR~20 points=24 agree=24 members=24\nopen FR~20/Aix%20en%20Provence~10 points=12 agree=12 members=12\nopen FR~20/Paris~10 points=12 agree=12 members=12\nlevel 0 opened=2 few=1 noline=0 badvalue=0\nlevel 1 opened=3 few=1 noline=0 badvalue=0\nrecords=60 rows=60 refused=0\n";
 
-// The same behind a broken seal, with the city of another country copied into a report, and into ten more.
+// The same behind a broken seal, with the city of another country copied into a report, and into
+// ten more.
 const TOLD_WITH_A_COPY: &[u8] =
     b"open DE~20 points=30 agree=30 members=30\nopen DE~20/Berlin~10 points=21 agree=21 members=21\nopen FR~20 points=25 agree=25 members=25\nopen FR~20/Aix%20en%20Provence~10 points=12 agree=12 members=12\nopen FR~20/Paris~10 points=12 agree=12 members=12\nlevel 0 opened=2 few=1 noline=0 badvalue=0\nlevel 1 opened=3 few=2 noline=0 badvalue=0\nrefused 0 0 Seal\nrecords=61 rows=61 refused=1\n";
 
@@ -51,8 +52,8 @@ fn push_records(
     Ok(())
 }
 
-// Puts the reports from 60 to below 60 + `count` last. In each the body is that of the report of a city
-// of the other country: report 60 has that of report 1, and so on.
+// Puts the reports from 60 to below 60 + `count` last. In each the body is that of the report of a
+// city of the other country: report 60 has that of report 1, and so on.
 fn push_copies(
     alloc: Global,
     stream: &mut Vec<u8>,
