@@ -92,7 +92,8 @@ fn fault_with(so_far: Result<RowBook, MergeFault>, number: u32, bad: &BadBook) -
     }
 }
 
-// The fault, told once the input was read to its end, if at most `room` bytes are left. Else there are too many.
+// The fault, told once the input was read to its end, if at most `room` bytes are left. Else there
+// are too many.
 fn told_at_the_end<S: Source>(
     input: &mut S,
     room: u64,
@@ -102,7 +103,8 @@ fn told_at_the_end<S: Source>(
     ensures end { IfOk result (λ told. (bytes : List ℕ) → S.left input.old ≡ Some bytes →
         length bytes ≤ room → (told ≡ fault) × (S.left input.new ≡ Some [])) }
     ensures more { IfOk result (λ told. (bytes : List ℕ) → S.left input.old ≡ Some bytes →
-        room < length bytes → (told ≡ TooMany) × (S.left input.new ≡ Some (drop (room + 1) bytes))) }
+        room < length bytes → (told ≡ TooMany)
+        × (S.left input.new ≡ Some (drop (room + 1) bytes))) }
     ensures cause { HasCause (S.faults input.old) (S.faults input.new) result }
 {
     if ends_within(input, room)? {

@@ -17,7 +17,8 @@ pub type Strays = Listed<Stray>;
 
 /// Keeps why the record of this number belongs to no epoch. After `NoMemory` all is as before.
 pub(crate) fn keep(strays: &mut Strays, index: u32, why: Why) -> Result<(), NoMemory>
-    ensures added { OnOk result (strays.new ≡ strays.old ++ record { index = index; why = why } ∷ []) }
+    ensures added { OnOk result (strays.new
+        ≡ strays.old ++ record { index = index; why = why } ∷ []) }
     ensures kept { OnErr result (strays.new ≡ strays.old) }
 {
     strays.push(Stray { index, why })
