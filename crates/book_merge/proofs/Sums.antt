@@ -221,8 +221,8 @@ pub bad_answered : (e number room : ℕ) (so_far : Result Book MergeFault) (bad 
     → ((rest : List ℕ) → after ≡ Some rest → length rest ≤ room - bad.used → (answer ≡ fault_with number so_far bad) × (new ≡ Some []))
     → ((rest : List ℕ) → after ≡ Some rest → room - bad.used < length rest → (answer ≡ TooMany) × (new ≡ Some (drop (room - bad.used + 1) rest)))
     → HasGone e number room so_far old middle → IsFault e old new answer
-bad_answered e number room so_far bad None middle after new answer turn fits end more gone bytes told = absurd cc
-bad_answered e number room so_far bad (Some from) None after new answer turn fits end more gone bytes told = absurd gone
+bad_answered e number room so_far bad None middle after new answer turn fits end more gone = λ bytes told. absurd cc
+bad_answered e number room so_far bad (Some from) None after new answer turn fits end more gone = λ bytes told. absurd gone
 bad_answered e number room so_far bad (Some from) (Some left) after new answer turn fits end more gone =
     let behind : List ℕ = drop bad.used left in
     let is : after ≡ Some behind = (turn left refl).2 in

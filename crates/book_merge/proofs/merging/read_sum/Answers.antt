@@ -56,10 +56,10 @@ returns-in-Err-Bad-clause-fault g c =
     let after = g.S.Source.left c.next_book.new.source in
     let new = g.S.Source.left c.told_at_the_end.new.input in
     let fits = rw c.in-Err-Bad.field-0-is at c.if-room-bad.false in
-    let judged = rw c.in-Err-Bad.field-0-is at c.fault_with.ensures in
-    let end = rw c.in-Err-Bad.field-0-is at c.in_ok-told_at_the_end.ensures.end in
-    let more = rw c.in-Err-Bad.field-0-is at c.in_ok-told_at_the_end.ensures.more in
-    bad_answered c.args.epoch c.loop-number.number c.loop-number.room c.loop-number.so_far c.in-Err-Bad.bad (g.S.Source.left c.args.input.now) middle after new c.in_ok-told_at_the_end.told
+    let judged = rw c.in-Err-Bad.field-0-is at c.fault_with-fault.ensures in
+    let end = rw c.in-Err-Bad.field-0-is at c.in_ok-told_at_the_end-in-Err-Bad.ensures.end in
+    let more = rw c.in-Err-Bad.field-0-is at c.in_ok-told_at_the_end-in-Err-Bad.ensures.more in
+    bad_answered c.args.epoch c.loop-number.number c.loop-number.room c.loop-number.so_far c.in-Err-Bad.bad (g.S.Source.left c.args.input.now) middle after new _
     (turn_of middle after c.next_book.result (Err (next.Bad c.in-Err-Bad.bad)) is c.next_book.ensures.next) fits
     (λ rest here few. let told = end rest here few in (told.0 ∙ judged, told.1)) more c.loop-number.invariant.gone
 
