@@ -165,16 +165,20 @@ def make_report(contexts, coins, extra):
     return frame
 
 
+def report_of(version, epoch, thresholds, seed, number, values, extra=b""):
+    """The bytes of the report of a client by its number."""
+    contexts = contexts_of(version, epoch, thresholds, values)
+    return write_frame(make_report(contexts, coins_of(seed, number, len(values)), extra))
+
+
 def make(text, epoch, thresholds, seed, version):
     """The stream of the reports of a table; without a seed one is drawn."""
     rows = read_rows(text, len(thresholds), version)
     seed = seed or os.urandom(32)
-    stream = []
-    for number, (values, extra) in enumerate(rows):
-        contexts = contexts_of(version, epoch, thresholds, values)
-        report = make_report(contexts, coins_of(seed, number, len(thresholds)), extra)
-        stream.append(write_record(write_frame(report)))
-    return b"".join(stream)
+    return b"".join(
+        write_record(report_of(version, epoch, thresholds, seed, number, values, extra))
+        for number, (values, extra) in enumerate(rows)
+    )
 
 
 VERBS = {"make": Verb(make, EPOCH | THRESHOLDS | {"seed": (seed, None), "version": (version, 1)})}

@@ -76,37 +76,38 @@ def agreeing(polynomials, points):
 
 # ChaCha20, RFC 8439.
 
+MASK = 0xFFFFFFFF
 QUARTERS = (
     (0, 4, 8, 12), (1, 5, 9, 13), (2, 6, 10, 14), (3, 7, 11, 15),
     (0, 5, 10, 15), (1, 6, 11, 12), (2, 7, 8, 13), (3, 4, 9, 14),
 )  # fmt: skip
 
 
-def rotate(word, bits):
-    """A word of 32 bits, rotated to the left."""
-    return (word << bits | word >> (32 - bits)) & 0xFFFFFFFF
+def quarter_round(a, b, c, d):
+    """Four words after one quarter round: sums modulo 2^32, and rotations by 16, 12, 8 and 7."""
+    a = (a + b) & MASK
+    d ^= a
+    d = (d << 16 | d >> 16) & MASK
+    c = (c + d) & MASK
+    b ^= c
+    b = (b << 12 | b >> 20) & MASK
+    a = (a + b) & MASK
+    d ^= a
+    d = (d << 8 | d >> 24) & MASK
+    c = (c + d) & MASK
+    b ^= c
+    b = (b << 7 | b >> 25) & MASK
+    return a, b, c, d
 
 
-def quarter_round(state, a, b, c, d):
-    """One quarter round on the words a, b, c and d of the state."""
-    state[a] = (state[a] + state[b]) & 0xFFFFFFFF
-    state[d] = rotate(state[d] ^ state[a], 16)
-    state[c] = (state[c] + state[d]) & 0xFFFFFFFF
-    state[b] = rotate(state[b] ^ state[c], 12)
-    state[a] = (state[a] + state[b]) & 0xFFFFFFFF
-    state[d] = rotate(state[d] ^ state[a], 8)
-    state[c] = (state[c] + state[d]) & 0xFFFFFFFF
-    state[b] = rotate(state[b] ^ state[c], 7)
-
-
+@functools.lru_cache(maxsize=65_536)
 def chacha20_block(key, nonce, counter):
-    """The 64 bytes of one block."""
+    """The 64 bytes of one block, kept since boxes and bodies of one key are often opened."""
     first = struct.unpack("<16I", b"expand 32-byte k" + key + struct.pack("<I", counter) + nonce)
-    state = list(first)
-    for _ in range(10):
-        for places in QUARTERS:
-            quarter_round(state, *places)
-    return struct.pack("<16I", *((a + b) & 0xFFFFFFFF for a, b in zip(state, first)))
+    s = list(first)
+    for a, b, c, d in QUARTERS * 10:
+        s[a], s[b], s[c], s[d] = quarter_round(s[a], s[b], s[c], s[d])
+    return struct.pack("<16I", *((after + before) & MASK for after, before in zip(s, first)))
 
 
 def keystream(key, nonce, length):
@@ -117,7 +118,8 @@ def keystream(key, nonce, length):
 
 def exclusive_or(data, mask):
     """Two byte lists of one length, bit by bit."""
-    return bytes(a ^ b for a, b in zip(data, mask))
+    number = int.from_bytes(data, "big") ^ int.from_bytes(mask, "big")
+    return number.to_bytes(len(data), "big")
 
 
 # Reading fields. Frames, books and certificates are all read by this.
@@ -289,10 +291,15 @@ class Context(NamedTuple):
     threshold: int
     value: bytes
 
+    @property
+    def data(self):
+        """The bytes of the context."""
+        numbers = struct.pack(">IBHB", self.epoch, self.level, self.threshold, len(self.value))
+        return self.parent + numbers + self.value
+
     def derive(self, kind):
         """The hash of the context of this kind."""
-        numbers = struct.pack(">IBHB", self.epoch, self.level, self.threshold, len(self.value))
-        return labelled_hash(self.version, kind, self.parent + numbers + self.value)
+        return labelled_hash(self.version, kind, self.data)
 
     @property
     def key(self):
