@@ -1,6 +1,6 @@
 #!/usr/bin/env bash
 # The page of bindings/web in Chromium and Firefox: each loads it, makes reports from the form and from 300 random requests, which have to
-# be those of the definitions, and leaves a screenshot in the folder FOLDER (bindings/out by default). The reports that Chromium made from
+# be those of tests/plain, and leaves a screenshot in the folder FOLDER (bindings/out by default). The reports that Chromium made from
 # the form are revealed by the built program. Outside the gate, since it installs Debian's packages chromium-headless-shell and firefox-esr
 # where they are missing.
 #     tests/browser.sh [FOLDER]

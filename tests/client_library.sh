@@ -1,6 +1,6 @@
 #!/usr/bin/env bash
-# The client as a library: builds it, and compares what C, Python, Rust and (where Node is here) the WebAssembly module make with the
-# definitions, and what faulty calls give with what they have to. The last line is 'ok' where all passed.
+# The client as a library: builds it, and compares what C, Python, Rust and (where Node is here) the WebAssembly module make with
+# those of tests/plain, and what faulty calls give with what they have to. The last line is 'ok' where all passed.
 set -e
 cd "$(dirname "$0")/.."
 work=$(mktemp -d)

@@ -1,5 +1,5 @@
 #!/usr/bin/env python3
-"""Runs the program on streams that are derived from good ones, and compares what it prints with what the definitions say.
+"""Runs the program on streams that are derived from good ones, and compares what it prints with what tests/plain says.
 
     mutations.py PROGRAM [--streams N] [--first I] [--jobs J] [--reference FOLDER] [--verbs NAME,..]
 
@@ -17,21 +17,21 @@ import struct
 import subprocess
 import sys
 
-sys.path.insert(0, os.path.join(os.path.dirname(os.path.abspath(__file__)), "definitions"))
-import check_text
-import definitions
-import formats
-import hostile
+sys.path.insert(0, os.path.join(os.path.dirname(os.path.abspath(__file__)), "plain"))
+import aggregator
+import client
+import fast
+import shared
 
 SECONDS = 60
 
-# A verb: its name, its words for an epoch, its text for the records by the definitions, and the same by the reference.
+# A verb: its name, its words for an epoch, its text for the stream by the plain aggregator, and the same by the reference.
 VERBS = [
     ("check", lambda epoch, number: ["check"],
-     lambda epoch, records: check_text.text_of(records),
+     lambda epoch, stream: aggregator.check(stream),
      lambda star, spec, epoch, records: star.check_text(records, spec)),
     ("reveal", lambda epoch, number: ["reveal", "--epoch", str(epoch), "--workers", str(1 + number % 3)],
-     lambda epoch, records: definitions.text_of(definitions.reveal_of(epoch, records)),
+     lambda epoch, stream: aggregator.reveal(stream, epoch, 1),
      lambda star, spec, epoch, records: star.text_of(star.reveal(records, epoch, spec))),
 ]
 
@@ -52,10 +52,34 @@ def good(number):
         thresholds, values = [rng.choice([2, 2, 3]) for _ in range(depth)], rng.sample(VALUES, rng.choice([1, 2]))
         for _ in range(rng.choice([2, 3, 5])):
             extra = rng.choice([b"", b"abc"]) if version == 2 else b""
-            frames.append(hostile.report(version, [rng.choice(values) for _ in range(depth)], thresholds, epoch, seed, len(frames), extra))
+            frames.append(client.report_of(version, epoch, thresholds, seed, len(frames), [rng.choice(values) for _ in range(depth)], extra))
     if number % 5 == 0:
-        frames += hostile.odd_bodies(rng, rng.choice([1, 2]), epoch, seed)
+        frames += odd_bodies(rng, rng.choice([1, 2]), epoch)
     return epoch, tuple(frames)
+
+
+def layer(rng, context, plain_body, **said):
+    """The bytes of a frame of the context with this plain body, rightly sealed; level and epoch may be said wrongly."""
+    frame = client.make_frame(context, rng.randint(1, shared.P - 1), rng.randbytes(12), plain_body)
+    return shared.write_frame(client.sealed(context, frame._replace(**said)))
+
+
+def odd_bodies(rng, version, epoch):
+    """Reports of one value, rightly sealed, with bodies of every kind."""
+    k = rng.choice([2, 3])
+    context = shared.Context(version, shared.NO_PARENT, epoch, 0, k, b"body")
+    child = shared.Context(version, context.check, epoch, 1, 2, b"in")
+    other = child._replace(version=3 - version)
+    found = []
+    for _ in range(k + rng.choice([0, 1, 4])):
+        def inner(of=child, **said):
+            return layer(rng, of, b"\0", **said)
+        plain_body = rng.choice([
+            b"\0", b"\0", b"\0\0", b"\0" + bytes(255), b"\0" + bytes(256), b"\2", b"\xff\1", b"\1", b"\1\0",
+            b"\1" + inner(), b"\1" + inner(), b"\1" + inner(epoch=epoch ^ 1), b"\1" + inner(level=0),
+            b"\1" + inner(level=2), b"\1" + inner(other), b"\1" + inner() + b"x", b"\1" + inner()[:-1]])
+        found.append(layer(rng, context, plain_body))
+    return found
 
 
 # ---- changes of a list of frames, of which at least one is left
@@ -86,7 +110,7 @@ def grown(rng, frame):
 
 def with_field(rng, frame):
     """A field at a bound of its range, or past it: version, level, epoch, threshold, point, share, lengths."""
-    p = formats.P
+    p = shared.P
     at, form, values = rng.choice([
         (2, ">B", [0, 1, 2, 3]), (3, ">B", [0, 1, 7, 8, 15, 16]), (4, ">I", EPOCHS), (8, ">H", [1, 2, 3, 512, 513, 4096, 4097]),
         (10, ">Q", [0, 1, p - 1, p]), (18, ">Q", [0, p - 1, p]), (34, ">Q", [0, p - 1, p]), (90, ">B", [0, 1, 2, 64, 65]),
@@ -136,7 +160,7 @@ def stream_of(number):
     epoch, frames = good(rng.randrange(POOL))
     for _ in range(rng.choice([0, 1, 1, 2, 3])):
         frames = rng.choice(CHANGES)(rng, frames)
-    stream = bytearray(b"".join(formats.record(frame) for frame in frames))
+    stream = bytearray(b"".join(shared.write_record(frame) for frame in frames))
     kind = rng.randrange(8)
     if kind == 0:
         del stream[rng.randrange(len(stream) + 1):]
@@ -187,14 +211,13 @@ def tried(numbers, program, verbs, folder):
         import star_reference as star
     for number in numbers:
         epoch, stream = stream_of(number)
-        records = formats.records(stream)
-        for name, words, definition, by_reference in verbs:
-            wanted = definition(epoch, records)
+        for name, words, by_plain, by_reference in verbs:
+            wanted = by_plain(epoch, stream)
             if star:
                 spec = star.Spec(2)
                 if by_reference(star, spec, epoch, star.records(stream, spec)) != wanted:
                     counts["differences"] += 1
-                    print("stream %d, %s: the reference differs from the definitions" % (number, name), flush=True)
+                    print("stream %d, %s: the reference differs from tests/plain" % (number, name), flush=True)
             kind, text = run(program, words(epoch, number), stream)
             counts["runs"] += 1
             if kind != "text" or text != wanted:

@@ -13,9 +13,9 @@ import subprocess
 import sys
 import tempfile
 
-sys.path.insert(0, os.path.join(os.path.dirname(os.path.abspath(__file__)), "definitions"))
-import formats
-import hostile
+sys.path.insert(0, os.path.join(os.path.dirname(os.path.abspath(__file__)), "plain"))
+from client import report_of
+from shared import write_record
 
 SHIM = r"""
 #define _GNU_SOURCE
@@ -85,7 +85,7 @@ void *realloc(void *old, size_t size) {
 
 def red(client, epoch=1):
     """The record of the report of `red` under threshold 2, from a client with a seed of zeros."""
-    return formats.record(hostile.report(1, [b"red"], [2], epoch, bytes(32), client))
+    return write_record(report_of(1, epoch, [2], bytes(32), client, [b"red"]))
 
 
 SEED = "--seed=" + 64 * "0"
@@ -96,7 +96,7 @@ EMPTY_BOOK = b"STARBOOK\x01" + bytes([0, 0, 0, 1]) + bytes(8)
 
 RUNS = [
     ("check on the empty input", ["check"], b"", b"records=0 good=0 refused=0\n"),
-    ("check on a report, a long record and a cut one", ["check"], red(0) + formats.record(bytes(9000)) + b"abc",
+    ("check on a report, a long record and a cut one", ["check"], red(0) + write_record(bytes(9000)) + b"abc",
      b"0 good level=0 epoch=1 k=2 box=3 body=1\n1 refused TooLong 8192\n2 refused CutLength 3\nrecords=3 good=1 refused=2\n"),
     ("make on one client", ["make", "--epoch", "1", "--thresholds", "2", SEED], b"red\n", red(0)),
     ("make on the empty table", ["make", "--epoch", "1", "--thresholds", "2", SEED], b"", b""),

@@ -15,20 +15,19 @@ import sys
 import tempfile
 import time
 
-sys.path.insert(0, os.path.join(os.path.dirname(os.path.abspath(__file__)), "definitions"))
-import formats
+sys.path.insert(0, os.path.join(os.path.dirname(os.path.abspath(__file__)), "plain"))
+from shared import NO_PARENT, NONCE_ZERO, Frame, P, write_frame, write_record
 
 EPOCH = 1
 
 
 def frame(version, k, x, y, tag, box=b"\0", body=b"\0"):
-    """A good frame of level 0. Its tag names its group; check, nonce and seal are zeros."""
-    part = formats.spell(version, 0, EPOCH, k, x, y, tag, formats.ZERO_CHECK, box, formats.ZERO_NONCE, body)
-    return formats.record(part + bytes(32))
+    """The record of a good frame of level 0. Its tag names its group; check, nonce and seal are zeros."""
+    return write_record(write_frame(Frame(version, 0, EPOCH, k, x, tuple(y), tag, NO_PARENT, box, NONCE_ZERO, body, seal=bytes(32))))
 
 
 def shares(rng):
-    return [rng.randrange(formats.P) for _ in range(3)]
+    return [rng.randrange(P) for _ in range(3)]
 
 
 # ---- streams whose records nobody had to seal

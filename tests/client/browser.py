@@ -1,5 +1,5 @@
 #!/usr/bin/env python3
-"""Runs the page of bindings/web in the browsers that are here, and compares what it makes with the definitions.
+"""Runs the page of bindings/web in the browsers that are here, and compares what it makes with tests/plain.
 
     browser.py FOLDER
 
@@ -19,10 +19,10 @@ import threading
 
 HERE = os.path.dirname(os.path.abspath(__file__))
 sys.dont_write_bytecode = True
-sys.path[:0] = [HERE, os.path.join(HERE, "..", "definitions")]
-import formats
+sys.path[:0] = [HERE, os.path.join(HERE, "..", "plain")]
 import vectors
 from random_requests import random_request
+from shared import write_record
 
 PAGE = os.path.join(HERE, "..", "..", "bindings", "web")
 CASES = 300
@@ -155,7 +155,7 @@ def main():
                 print("%s: two layers %.0f us, eight with thresholds of 512 %.0f us; %s" % (name, told["two"], told["eight"], told["agent"]))
             if name == "chromium" and told["form"]:
                 with open(os.path.join(folder, "page.stream"), "wb") as file:
-                    file.write(b"".join(formats.record(bytes.fromhex(f["report"])) for f in told["form"]))
+                    file.write(b"".join(write_record(bytes.fromhex(f["report"])) for f in told["form"]))
     server.shutdown()
     failed = [name for name, passed in answers if not passed]
     for name in failed[:20]:

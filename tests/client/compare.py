@@ -1,5 +1,5 @@
 #!/usr/bin/env python3
-"""Compares the client library with the definitions, on random reports of 1 to 16 layers and on faulty requests.
+"""Compares the client library with tests/plain, on random reports of 1 to 16 layers and on faulty requests.
 
     compare.py [--cases N] [--reference FOLDER] [--library FILE] [-- PROGRAM WORD..]..
 
@@ -13,7 +13,7 @@ import sys
 
 HERE = os.path.dirname(os.path.abspath(__file__))
 sys.dont_write_bytecode = True
-sys.path[:0] = [HERE, os.path.join(HERE, "..", "definitions"), os.path.join(HERE, "..", "..", "bindings", "python")]
+sys.path[:0] = [HERE, os.path.join(HERE, "..", "plain"), os.path.join(HERE, "..", "..", "bindings", "python")]
 import star_client
 import vectors
 from random_requests import random_request

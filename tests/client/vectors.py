@@ -7,7 +7,7 @@
 PROGRAM is the built program: its `make` has to give the reports of the file; `-` runs none. The file has to be what is written anew.
 With --reference, star_reference.py in that folder has to give the same reports. The last line is 'N passed, M failed'.
 
-The values are derived by tests/definitions/formats.py, plain Python that takes nothing from the program.
+The values are derived by tests/plain/shared.py, plain Python that takes nothing from the program.
 """
 import json
 import os
@@ -16,9 +16,11 @@ import subprocess
 import sys
 
 HERE = os.path.dirname(os.path.abspath(__file__))
-sys.path.insert(0, os.path.join(HERE, "..", "definitions"))
+sys.path.insert(0, os.path.join(HERE, "..", "plain"))
 sys.dont_write_bytecode = True
-import formats
+import client
+import fast
+import shared
 
 FILE = os.path.join(HERE, "..", "..", "examples", "vectors.json")
 ABOUT = ("Reports of Nested STAR with each value of their derivation (docs/FORMATS.md). Bytes are in hexadecimal, field elements and other "
@@ -45,38 +47,29 @@ def some(coefficients):
 
 def layer(version, context, coins):
     """All that is derived of a layer, but for what its body holds."""
-    key = formats.context_key(context)
+    key = context.key
+    keys = shared.keys_of(version, key)
     x = 1 + int.from_bytes(coins[:8], "big") % 2**60
-    polynomials = formats.polynomials(context)
+    polynomials = shared.polynomials_of(context)
     return {
-        "level": context.level, "threshold": context.k, "value": context.value.hex(), "parent": context.parent.hex(),
-        "context": formats.context_bytes(context).hex(), "key": key.hex(), "tag": formats.context_tag(context).hex(),
-        "check": formats.context_check(context).hex(), "coin key": formats.hashed(version, 5, formats.context_bytes(context)).hex(),
-        "box key": formats.box_key(version, key).hex(), "body key": formats.body_key(version, key).hex(),
-        "seal key": formats.seal_key(version, key).hex(),
-        "box": formats.xored(context.value, formats.box_key(version, key), formats.ZERO_NONCE).hex(),
-        "limbs": formats.limbs(key), "coefficients": [some(p) for p in polynomials],
-        "coins": coins.hex(), "point": x, "shares": [formats.value_at(p, x) for p in polynomials], "nonce": coins[8:].hex(),
+        "level": context.level, "threshold": context.threshold, "value": context.value.hex(), "parent": context.parent.hex(),
+        "context": context.data.hex(), "key": key.hex(), "tag": context.tag.hex(), "check": context.check.hex(),
+        "coin key": context.derive(5).hex(), "box key": keys.box.hex(), "body key": keys.body.hex(), "seal key": keys.seal.hex(),
+        "box": shared.open_box(version, key, context.value).hex(),
+        "limbs": shared.limbs_of(key), "coefficients": [some(p) for p in polynomials],
+        "coins": coins.hex(), "point": x, "shares": [shared.value_at(p, x) for p in polynomials], "nonce": coins[8:].hex(),
     }
 
 
 def report(version, epoch, seed, thresholds, number, values, extra):
-    coins = formats.keystream(seed, struct.pack("<III", 0, number, 0), 20 * len(values))
-    parent, layers, contexts = formats.ZERO_CHECK, [], []
-    for level, (value, k) in enumerate(zip(values, thresholds)):
-        context = formats.Context(version, parent, epoch, level, k, value)
-        contexts.append(context)
-        layers.append(layer(version, context, coins[20 * level:20 * level + 20]))
-        parent = formats.context_check(context)
+    coins = shared.keystream(seed, struct.pack("<III", 0, number, 0), 20 * len(values))
+    contexts = client.contexts_of(version, epoch, thresholds, values)
+    layers = [layer(version, context, coins[20 * context.level:20 * context.level + 20]) for context in contexts]
     plain = b"\0" + extra
     for context, made in zip(reversed(contexts), reversed(layers)):
-        take = lambda name: bytes.fromhex(made[name])
-        body = formats.xored(plain, take("body key"), take("nonce"))
-        part = formats.spell(version, context.level, epoch, context.k, made["point"], made["shares"], take("tag"), take("check"), take("box"),
-                             take("nonce"), body)
-        seal = formats.sealed(take("seal key"), part)
-        made.update({"plain body": plain.hex(), "body": body.hex(), "seal": seal.hex()})
-        plain = b"\1" + part + seal
+        frame = client.make_frame(context, made["point"], bytes.fromhex(made["nonce"]), plain)
+        made.update({"plain body": plain.hex(), "body": frame.body.hex(), "seal": frame.seal.hex()})
+        plain = b"\1" + shared.write_frame(frame)
     return {"client": number, "extra": extra.hex(), "layers": layers, "report": plain[1:].hex()}
 
 
@@ -124,7 +117,7 @@ def main():
     for i, t in enumerate(json.loads(kept)["tables"]):
         frames = [bytes.fromhex(r["report"]) for r in t["reports"]]
         if sys.argv[1] != "-":
-            answers.append(("the program on table %d" % i, program_stream(sys.argv[1], t) == b"".join(map(formats.record, frames))))
+            answers.append(("the program on table %d" % i, program_stream(sys.argv[1], t) == b"".join(map(shared.write_record, frames))))
         for r, frame in zip(t["reports"], frames) if reference else []:
             values = [bytes.fromhex(layer["value"]) for layer in r["layers"]]
             other = reference.build(values, t["thresholds"], t["epoch"], bytes.fromhex(t["seed"]), r["client"], t["version"], bytes.fromhex(r["extra"]))
