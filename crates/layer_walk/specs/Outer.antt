@@ -1,5 +1,5 @@
 -- A record as a row of the code at level 0.
-use Rattle.std.specs.Prelude.{ℕ, Option, None, Some, Result, Ok, Err}
+use Rattle.std.specs.Prelude.{ℕ, Result, Ok, Err}
 use Rattle.report_frame.specs.Frame.{Fields}
 use Rattle.tag_groups.specs.RowView.{RowView}
 use Rattle.layer_walk.specs.declared.refusal.Why.{Why}
@@ -8,8 +8,3 @@ use Rattle.layer_walk.specs.declared.refusal.Why.{Why}
 abbrev pub first_row : ℕ → Result Fields Why → Result RowView Why
 first_row i (Ok frame) = Ok (record { index = i; parent = 0; report = frame })
 first_row i (Err why) = Err why
-
--- why it is refused, if it is
-abbrev pub reason_in : Result Fields Why → Option Why
-reason_in (Ok frame) = None
-reason_in (Err why) = Some why

@@ -5,6 +5,7 @@ ghost use Rattle.tag_groups.specs.Grouped.{groups_of};
 use crate::level::{Level, Parents};
 use star_io::NoMemory;
 use std::alloc::Global;
+use std::thread::{Threads, join};
 use tag_groups::{Grouped, Grouper, Groups, Row};
 
 /// A level, and the groups of its rows.
@@ -47,6 +48,30 @@ pub(crate) fn grouper_of(alloc: Global, rows: Vec<Row>) -> Result<Grouper, NoMem
         grouper.add(row)?;
     }
     Ok(grouper)
+}
+
+/// The rows as a grouper takes them, in their order. What was before is dropped: where there are
+/// several workers, by another thread while the rows are grouped.
+pub(crate) fn grouper_after<R: Threads>(
+    rt: &R,
+    alloc: Global,
+    before: GroupedLevel,
+    rows: Vec<Row>,
+    workers: u32,
+) -> Result<Grouper, NoMemory>
+    requires { length rows.items < 2 ^ 32 }
+    ensures { IfOk result (λ grouper. grouper ≡ rows.items) }
+{
+    if workers < 2 {
+        return grouper_of(alloc, rows);
+    }
+    let free = move || drop(before);
+    let group = move || -> Result<Grouper, NoMemory>
+        requires { length rows.items < 2 ^ 32 }
+        ensures { IfOk result (λ grouper. grouper ≡ rows.items) }
+    { grouper_of(alloc, rows) };
+    let (_, grouper) = join(rt, free, group);
+    grouper
 }
 
 /// The level with the groups of its rows. Nothing is copied.

@@ -85,7 +85,7 @@ fn adopt_all(rows: &mut Vec<Row>, parent: u32, inners: Vec<Inner>) -> Result<(),
 fn adopt(parent: u32, inner: Inner) -> Row
     ensures { result ≡ adopt parent inner }
 {
-    Row::new(inner.index, parent, inner.frame).unwrap()
+    Row::of_frame(inner.index, parent, inner.frame)
 }
 
 /// Rows of copies of the reports that the members of the groups hold.

@@ -49,7 +49,7 @@ pub fn level_zero(alloc: Global, records: &[Record], epoch: u32) -> Result<Level
     let mut rows = Rows::new(alloc);
     for (i, item) in records.iter().enumerate() {
         if let Ok(row) = first_row(i as u32, copy_record(alloc, item)?, epoch) {
-            rows.push(row)?;
+            rows.push(row.into_row())?;
         }
     }
     Ok(Level {

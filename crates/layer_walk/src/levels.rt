@@ -8,7 +8,7 @@ ghost use Rattle.layer_walk.specs.Reveal.{groups_told, levels_told, refusals_tol
 ghost use Rattle.layer_walk.specs.Told.{TellsLevel};
 
 use crate::group::GroupOut;
-use crate::grouped::{GroupedLevel, grouper_of, with_groups};
+use crate::grouped::{GroupedLevel, grouper_after, with_groups};
 use crate::held::{Held, append, held_by};
 use crate::jobs::outs_of;
 use crate::parents::parents_of;
@@ -56,25 +56,26 @@ pub(crate) fn told_from<R: Threads + Sync, G: Gate>(
             return Ok(told);
         }
         let outs = outs_of(rt, alloc, &here.level, &here.groups, workers, gate)?;
-        here = pass_level(alloc, &mut told, &here, outs)?;
+        here = pass_level(rt, alloc, &mut told, here, outs, workers)?;
     }
     Ok(told)
 }
 
 // Tells of a level, and gives the level after it. No report is copied.
-fn pass_level(
+fn pass_level<R: Threads>(
+    rt: &R,
     alloc: Global,
     told: &mut Told,
-    here: &GroupedLevel,
+    here: GroupedLevel,
     outs: Vec<GroupOut>,
+    workers: u32,
 ) -> Result<GroupedLevel, NoMemory>
-    requires level { IsLevel here.now.level }
-    requires number { here.now.level.number ≤ MAX_LEVEL_TWO }
-    requires groups { here.now.groups ≡ groups_of here.now.level.rows }
-    requires outs { AreOuts here.now.level here.now.groups outs.items }
-    ensures tells { IfOk result (λ _. TellsLevel here.now.level told.old told.new) }
-    ensures after { IfOk result (λ next.
-        IsAfter here.now.level here.now.groups outs.items next.level) }
+    requires level { IsLevel here.level }
+    requires number { here.level.number ≤ MAX_LEVEL_TWO }
+    requires groups { here.groups ≡ groups_of here.level.rows }
+    requires outs { AreOuts here.level here.groups outs.items }
+    ensures tells { IfOk result (λ _. TellsLevel here.level told.old told.new) }
+    ensures after { IfOk result (λ next. IsAfter here.level here.groups outs.items next.level) }
     ensures good { IfOk result (λ next. IsLevel next.level) }
     ensures groups { IfOk result (λ next. next.groups ≡ groups_of next.level.rows) }
 {
@@ -90,6 +91,7 @@ fn pass_level(
     } = held_by(alloc, outs)?;
     append(&mut told.refusals, sorted_refusals(refusals)?)?;
     append(&mut told.aux, sorted_aux(aux)?)?;
-    let grouper = grouper_of(alloc, sorted_rows(rows)?)?;
-    Ok(with_groups(level.number + 1, level.epoch, parents, grouper))
+    let (number, epoch) = (level.number + 1, level.epoch);
+    let grouper = grouper_after(rt, alloc, here, sorted_rows(rows)?, workers)?;
+    Ok(with_groups(number, epoch, parents, grouper))
 }

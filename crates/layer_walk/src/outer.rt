@@ -1,18 +1,20 @@
 // Records as rows of level 0.
-ghost use Rattle.std.specs.Prelude.{◌≡◌, IfOk};
+ghost use Rattle.std.specs.Prelude.{◌≡◌, Ok, Err, IfOk, IfErr};
 ghost use Rattle.report_frame.specs.Reading.{decoded};
+ghost use Rattle.report_frame.specs.View.{head_of};
+ghost use Rattle.tag_groups.specs.RowView.{report_in, IsRead};
 ghost use Rattle.layer_walk.specs.Members.{frame_for};
-ghost use Rattle.layer_walk.specs.Outer.{first_row, reason_in};
+ghost use Rattle.layer_walk.specs.Outer.{first_row};
 ghost use Rattle.layer_walk.specs.Reveal.{first_frame};
 
 use crate::refusal::Why;
-use report_frame::{FaultKind, decode_view};
+use report_frame::{FaultKind, Head, decode_view};
 use star_io::{Bytes, NoMemory, Record};
 use std::alloc::Global;
-use tag_groups::Row;
+use tag_groups::HeadedRow;
 
 /// The row of level 0 that the record of this number is, or why it is refused. Nothing is copied.
-pub(crate) fn first_row(index: u32, item: Record, epoch: u32) -> Result<Row, Why>
+pub(crate) fn first_row(index: u32, item: Record, epoch: u32) -> Result<HeadedRow, Why>
     ensures { result ≡ first_row index (first_frame epoch item) }
 {
     match item {
@@ -23,29 +25,33 @@ pub(crate) fn first_row(index: u32, item: Record, epoch: u32) -> Result<Row, Why
     }
 }
 
-fn whole_row(index: u32, bytes: Bytes, epoch: u32) -> Result<Row, Why>
+fn whole_row(index: u32, bytes: Bytes, epoch: u32) -> Result<HeadedRow, Why>
     ensures { result ≡ first_row index (frame_for epoch 0 (decoded bytes)) }
 {
-    match reason_against(bytes.as_slice(), epoch) {
-        Some(why) => Err(why),
-        None => Ok(Row::new(index, 0, bytes).unwrap()),
+    match head_in(bytes.as_slice(), epoch) {
+        Ok(head) => Ok(HeadedRow::new(index, 0, bytes, head)),
+        Err(why) => Err(why),
     }
 }
 
-// Why the bytes are no frame of this epoch and level 0, if they are none.
-fn reason_against(bytes: &[u8], epoch: u32) -> Option<Why>
-    ensures { result ≡ reason_in (frame_for epoch 0 (decoded bytes.now)) }
+// The head of the frame of this epoch and level 0 that the bytes are, or why they are none.
+fn head_in(bytes: &[u8], epoch: u32) -> Result<Head, Why>
+    ensures refused { IfErr result (λ why. frame_for epoch 0 (decoded bytes.now) ≡ Err why) }
+    ensures frame { IfOk result (λ _. frame_for epoch 0 (decoded bytes.now)
+        ≡ Ok (report_in bytes.now)) }
+    ensures read { IfOk result (λ _. IsRead bytes.now) }
+    ensures head { IfOk result (λ head. head ≡ head_of (report_in bytes.now)) }
 {
     match decode_view(bytes) {
-        Err(fault) => Some(Why::Frame(fault.kind)),
+        Err(fault) => Err(Why::Frame(fault.kind)),
         Ok(frame) => {
             if frame.epoch() != epoch {
-                return Some(Why::WrongEpoch);
+                return Err(Why::WrongEpoch);
             }
             if frame.level() != 0 {
-                return Some(Why::WrongLevel);
+                return Err(Why::WrongLevel);
             }
-            None
+            Ok(frame.head())
         }
     }
 }

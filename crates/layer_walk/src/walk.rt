@@ -91,7 +91,7 @@ impl Walk {
     {
         let index = self.taken;
         match first_row(index, item, self.epoch) {
-            Ok(row) => self.rows.add(row)?,
+            Ok(row) => self.rows.add_headed(row)?,
             Err(why) => self.refusals.push(Refusal {
                 index,
                 stage: Stage::Outer,

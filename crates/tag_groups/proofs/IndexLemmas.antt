@@ -1,5 +1,5 @@
 -- One more member in the group of a key, and the place that a map finds.
-use Rattle.std.proofs.Common.{◌≡◌, ℕ, suc, Bool, true, false, cond, ◌&&◌, List, [], ◌∷◌, ◌++◌, Option, Some, None, length, refl, sym, ap, ◌∙◌, subst, get_or, eqb, eqb-true}
+use Rattle.std.proofs.Common.{◌≡◌, ℕ, suc, Bool, true, false, cond, ◌&&◌, List, [], ◌∷◌, ◌++◌, Option, Some, None, length, refl, sym, ap, ◌∙◌, subst, get_or, eqb, eqb-true, eq-eqb}
 use Rattle.std.proofs.Math.ListN.{set}
 use Rattle.std.proofs.lemmas.Option.{same_Some, none-some}
 use Rattle.std.specs.Option.{option_map}
@@ -14,9 +14,10 @@ use Rattle.report_frame.specs.declared.version.Version.TheVariants.{One, Two}
 use Rattle.report_frame.specs.contracts.version.VersionPartialEq.TheImpl as version_eq
 use Rattle.tag_groups.specs.Keys.{same_version}
 use Rattle.tag_groups.specs.declared.key.Key.{Key}
-use Rattle.tag_groups.specs.contracts.key.KeyOrd.TheImpl.Laws.{matches_eq-law}
+use Rattle.tag_groups.specs.declared.key.Rank.{Rank}
+use Rattle.tag_groups.specs.contracts.key.RankOrd.TheImpl.Laws.{matches_eq-law}
 use Rattle.tag_groups.specs.GroupView.{GroupView}
-use Rattle.tag_groups.specs.Index.{key_cmp, has_key, Finds, with_member, new_group, joined}
+use Rattle.tag_groups.specs.Index.{front_of, rank_of, rank_cmp, has_key, Finds, with_member, new_group, joined}
 use Rattle.tag_groups.proofs.Keys.{same_head_is}
 use Rattle.std.specs.Cmp.{first_so, second_so}
 use Rattle.star_lists.specs.Places.{place_of}
@@ -73,12 +74,6 @@ version_tie One Two = refl
 version_tie Two One = refl
 version_tie Two Two = refl
 
--- the map's order tells keys apart as groups do
-pub key_tie : (key q : Key) (n : ℕ) → is_eq (key_cmp key q) ≡ has_key q (new_group key n)
-key_tie key q n =
-    let same : Bool → Bool = λ v. eqb key.parent q.parent && (v && (eqb key.head.k q.head.k && (bytes_eq key.head.tag q.head.tag && (bytes_eq key.head.check q.head.check && bytes_eq key.head.boxed q.head.boxed)))) in
-    sym (matches_eq-law key q) ∙ ap same (version_tie key.head.version q.head.version)
-
 -- equal keys are one
 pub key_is : (key q : Key) (n : ℕ) → has_key q (new_group key n) ≡ true → key ≡ q
 key_is key q n h =
@@ -86,16 +81,32 @@ key_is key q n h =
     let head : key.head ≡ q.head = same_head_is key.head q.head (second_so (eqb key.parent q.parent) _ h) in
     λ i. record { parent = parent i; head = head i }
 
+-- nothing holds beside what doesn't
+no_more : (b : Bool) → (b && false) ≡ false
+no_more true = refl
+no_more false = refl
+
+-- the map's order tells keys apart as groups do: where the keys are one, so are the fronts of their tags
+pub rank_tie : (key q : Key) (n : ℕ) → is_eq (rank_cmp (rank_of key) (rank_of q)) ≡ has_key q (new_group key n)
+rank_tie key q n =
+    let fronts : Bool = eqb (front_of key.head.tag) (front_of q.head.tag) in
+    let same : Bool → Bool = λ v. eqb key.parent q.parent && (v && (eqb key.head.k q.head.k && (bytes_eq key.head.tag q.head.tag && (bytes_eq key.head.check q.head.check && bytes_eq key.head.boxed q.head.boxed)))) in
+    sym (matches_eq-law (rank_of key) (rank_of q)) ∙ ap (λ v. fronts && same v) (version_tie key.head.version q.head.version)
+    ∙ elim (has_key q (new_group key n)) as (λ b. has_key q (new_group key n) ≡ b → (fronts && b) ≡ b) [
+      | true ↦ λ h. ap (λ b. b && true) (eq-eqb _ _ (ap (λ (k : Key). front_of k.head.tag) (key_is key q n h)))
+      | false ↦ λ h. no_more fronts
+    ] refl
+
 -- a group that was not found begins, and the map has its place
-pub finds_new : (key : Key) (n : ℕ) (gs : List GroupView) (old new : BTreeMap Key ℕ) → Finds old gs → place_of (has_key key) gs ≡ None → Updates key_cmp old new key (Some (length gs)) → Finds new (gs ++ new_group key n ∷ [])
+pub finds_new : (key : Key) (n : ℕ) (gs : List GroupView) (old new : BTreeMap Rank ℕ) → Finds old gs → place_of (has_key key) gs ≡ None → Updates rank_cmp old new (rank_of key) (Some (length gs)) → Finds new (gs ++ new_group key n ∷ [])
 finds_new key n gs old new was none is q =
-    is.0 q ∙ elim (has_key q (new_group key n)) as (λ b. has_key q (new_group key n) ≡ b → cond (is_eq (key_cmp key q)) (Some (length gs)) (get key_cmp old q) ≡ place_of (has_key q) (gs ++ new_group key n ∷ [])) [
+    is.0 (rank_of q) ∙ elim (has_key q (new_group key n)) as (λ b. has_key q (new_group key n) ≡ b → cond (is_eq (rank_cmp (rank_of key) (rank_of q))) (Some (length gs)) (get rank_cmp old (rank_of q)) ≡ place_of (has_key q) (gs ++ new_group key n ∷ [])) [
       | true ↦ λ h.
           let none_here : place_of (has_key q) gs ≡ None = subst (λ k. place_of (has_key k) gs ≡ None) (key_is key q n h) none in
-          ap (λ b. cond b (Some (length gs)) (get key_cmp old q)) (key_tie key q n ∙ h)
+          ap (λ b. cond b (Some (length gs)) (get rank_cmp old (rank_of q))) (rank_tie key q n ∙ h)
           ∙ sym (place_last (has_key q) gs (new_group key n) ∙ (λ i. place_or (none_here i) (if h i then Some (length gs) else None)))
       | false ↦ λ h.
-          ap (λ b. cond b (Some (length gs)) (get key_cmp old q)) (key_tie key q n ∙ h) ∙ was q
+          ap (λ b. cond b (Some (length gs)) (get rank_cmp old (rank_of q))) (rank_tie key q n ∙ h) ∙ was q
           ∙ sym (place_last (has_key q) gs (new_group key n) ∙ ap (λ b. place_or (place_of (has_key q) gs) (if b then Some (length gs) else None)) h ∙ or_none (place_of (has_key q) gs))
     ] refl
 
@@ -114,6 +125,6 @@ pub none_groups : (key : Key) (n : ℕ) (gs news : List GroupView) (b : Bool) �
 none_groups key n gs news true none is = is ∙ joined_last key n gs none
 none_groups key n gs news false none is = is
 
-pub none_finds : {A B : Type 0} (r : Result A B) (key : Key) (n : ℕ) (gs news : List GroupView) (old new : BTreeMap Key ℕ) → Finds old gs → place_of (has_key key) gs ≡ None → OnOk r (Updates key_cmp old new key (Some (length gs))) → OnErr r (IsUnchanged old new) → news ≡ (if is_ok r then gs ++ new_group key n ∷ [] else gs) → Finds new news
+pub none_finds : {A B : Type 0} (r : Result A B) (key : Key) (n : ℕ) (gs news : List GroupView) (old new : BTreeMap Rank ℕ) → Finds old gs → place_of (has_key key) gs ≡ None → OnOk r (Updates rank_cmp old new (rank_of key) (Some (length gs))) → OnErr r (IsUnchanged old new) → news ≡ (if is_ok r then gs ++ new_group key n ∷ [] else gs) → Finds new news
 none_finds (Ok x) key n gs news old new was none updates kept is q = finds_new key n gs old new was none updates q ∙ ap (place_of (has_key q)) (sym is)
-none_finds (Err e) key n gs news old new was none updates kept is q = ap (lookup (is_at (key_cmp q))) kept ∙ was q ∙ ap (place_of (has_key q)) (sym is)
+none_finds (Err e) key n gs news old new was none updates kept is q = ap (lookup (is_at (rank_cmp (rank_of q)))) kept ∙ was q ∙ ap (place_of (has_key q)) (sym is)

@@ -3,12 +3,12 @@ ghost use Rattle.std.specs.Prelude.{◌≡◌, ◌<◌, ◌-◌, ◌^◌, [], �
 ghost use Rattle.std.specs.BTreeMap.{Updates, IsUnchanged};
 ghost use Rattle.tag_groups.specs.Keys.{HasThreshold};
 ghost use Rattle.tag_groups.specs.Grouped.{groups_of};
-ghost use Rattle.tag_groups.specs.Index.{Finds, key_cmp, joined, new_group};
+ghost use Rattle.tag_groups.specs.Index.{Finds, rank_cmp, joined, new_group};
 
 use crate::group::{Group, Groups};
-use crate::key::{Key, key_of};
+use crate::key::{Key, Rank, rank_of};
 use crate::listed::Listed;
-use crate::row::{Row, Rows};
+use crate::row::{HeadedRow, Row, Rows};
 use report_frame::Head;
 use star_io::NoMemory;
 use std::alloc::Global;
@@ -22,7 +22,7 @@ pub struct Grouper {
     alloc: Global,
     rows: Vec<Row>,
     groups: Vec<Group>,
-    places: BTreeMap<Key, u32>,
+    places: BTreeMap<Rank, u32>,
 }
 
 impl Model for Grouper {
@@ -64,7 +64,20 @@ impl Grouper {
         ensures added { OnOk result (self.new ≡ self.old ++ row ∷ []) }
         ensures kept { OnErr result (self.new ≡ self.old) }
     {
-        let key = key_of(&row);
+        self.add_headed(HeadedRow::of(row))
+    }
+
+    /// Puts the row last, as [`add`](Grouper::add) does, and doesn't read its frame again.
+    pub fn add_headed(&mut self, row: HeadedRow) -> Result<(), NoMemory>
+        requires { length self.old < 2 ^ 32 - 1 }
+        ensures added { OnOk result (self.new ≡ self.old ++ row ∷ []) }
+        ensures kept { OnErr result (self.new ≡ self.old) }
+    {
+        let HeadedRow { row, head } = row;
+        let key = Key {
+            parent: row.parent(),
+            head,
+        };
         let member = self.rows.len() as u32;
         self.rows.push(row)?;
         let joined = join(self.alloc, &mut self.groups, &mut self.places, key, member);
@@ -90,7 +103,7 @@ impl Grouper {
 fn join(
     alloc: Global,
     groups: &mut Vec<Group>,
-    places: &mut BTreeMap<Key, u32>,
+    places: &mut BTreeMap<Rank, u32>,
     key: Key,
     member: u32,
 ) -> Result<(), NoMemory>
@@ -101,26 +114,27 @@ fn join(
         ≡ (if is_ok result then joined key member groups.old.items else groups.old.items) }
     ensures finds { Finds places.new groups.new.items }
 {
-    match places.get(&key).copied() {
+    let rank = rank_of(key);
+    match places.get(&rank).copied() {
         Some(place) => groups[place as usize].add_member(member),
-        None => begin(alloc, groups, places, key, member),
+        None => begin(alloc, groups, places, rank, member),
     }
 }
 
-// Begins a group of this key with the row of this place. After `NoMemory` all is as before.
+// Begins a group of this rank's key with the row of this place. After `NoMemory` all is as before.
 fn begin(
     alloc: Global,
     groups: &mut Vec<Group>,
-    places: &mut BTreeMap<Key, u32>,
-    key: Key,
+    places: &mut BTreeMap<Rank, u32>,
+    rank: Rank,
     member: u32,
 ) -> Result<(), NoMemory>
     requires few { length groups.old.items < 2 ^ 32 }
-    requires threshold { HasThreshold key.head }
+    requires threshold { HasThreshold rank.key.head }
     ensures groups { groups.new.items
         ≡ (if is_ok result then groups.old.items
-        ++ new_group key member ∷ [] else groups.old.items) }
-    ensures places { OnOk result (Updates key_cmp places.old places.new key
+        ++ new_group rank.key member ∷ [] else groups.old.items) }
+    ensures places { OnOk result (Updates rank_cmp places.old places.new rank
         (Some (length groups.old.items))) }
     ensures kept { OnErr result (IsUnchanged places.old places.new) }
 {
@@ -128,11 +142,11 @@ fn begin(
     members.push(member)?;
     let place = groups.len() as u32;
     groups.push(Group {
-        parent: key.parent,
-        head: copy_head(&key.head),
+        parent: rank.key.parent,
+        head: copy_head(&rank.key.head),
         members,
     })?;
-    if places.insert(key, place).is_err() {
+    if places.insert(rank, place).is_err() {
         groups.pop();
         return Err(NoMemory);
     }

@@ -15,7 +15,7 @@ pub use grouper::{Grouped, Grouper};
 pub use groups::group_rows;
 pub use listed::Listed;
 pub use points::{Points, points_left};
-pub use row::{BadRow, Row, Rows};
+pub use row::{BadRow, HeadedRow, Row, Rows};
 
 #[cfg(test)]
 mod tests;

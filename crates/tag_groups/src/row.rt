@@ -4,11 +4,12 @@ ghost use Rattle.report_frame.specs.Frame.{Fields, IsFrame, FaultAt};
 ghost use Rattle.report_frame.specs.Laws.{InRange};
 ghost use Rattle.report_frame.specs.Reading.{decoded};
 ghost use Rattle.report_frame.specs.Versions.{max_frame};
-ghost use Rattle.report_frame.specs.View.{fields_of};
+ghost use Rattle.report_frame.specs.View.{fields_of, head_of};
+ghost use Rattle.tag_groups.specs.RowView.{report_in, IsRead};
 ghost use Rattle.tag_groups.specs.Rows.{row_from};
 
 use crate::listed::Listed;
-use report_frame::{Fault, FrameView, decode_view};
+use report_frame::{Fault, FrameView, Head, decode_view};
 use star_io::Bytes;
 use std::marker::Model;
 
@@ -59,6 +60,18 @@ impl Row {
         }
     }
 
+    /// The row of these bytes, which are a frame. They are not read.
+    pub fn of_frame(index: u32, parent: u32, frame: Bytes) -> Row
+        requires { IsRead frame }
+        ensures { result ≡ record { index = index; parent = parent; report = report_in frame } }
+    {
+        Row {
+            index,
+            parent,
+            frame,
+        }
+    }
+
     /// The number of its record.
     pub fn index(&self) -> u32
         ensures { result ≡ self.now.index }
@@ -81,6 +94,56 @@ impl Row {
             ≤ max_frame self.now.report.version }
     {
         decode_view(self.frame.as_slice()).unwrap()
+    }
+}
+
+/// A row whose head was read out of its frame.
+#[derive(Drop)]
+pub struct HeadedRow {
+    pub(crate) row: Row,
+    pub(crate) head: Head,
+}
+
+impl Model for HeadedRow {
+    ghost use Rattle.std.specs.Prelude.{◌≡◌};
+    ghost use Rattle.report_frame.specs.View.{head_of};
+    ghost use Rattle.tag_groups.specs.RowView.{RowView};
+    ghost use Rattle.tag_groups.specs.Keys.{HasThreshold};
+
+    ghost Value = { RowView };
+
+    ghost view = { λ h. h.row };
+
+    ghost invariant = { λ h. (h.head ≡ head_of h.row.report) × HasThreshold h.head };
+}
+
+impl HeadedRow {
+    /// The row of these bytes, which are a frame with this head. Nothing is read.
+    pub fn new(index: u32, parent: u32, frame: Bytes, head: Head) -> HeadedRow
+        requires read { IsRead frame }
+        requires head { head ≡ head_of (report_in frame) }
+        ensures { result ≡ record { index = index; parent = parent; report = report_in frame } }
+    {
+        HeadedRow {
+            row: Row::of_frame(index, parent, frame),
+            head,
+        }
+    }
+
+    /// The row, whose head is read.
+    pub fn of(row: Row) -> HeadedRow
+        ensures { result ≡ row }
+    {
+        let head = row.view().head();
+        HeadedRow { row, head }
+    }
+
+    /// The row alone.
+    pub fn into_row(self) -> Row
+        ensures { result ≡ self }
+    {
+        let HeadedRow { row, .. } = self;
+        row
     }
 }
 

@@ -23,7 +23,7 @@ loop-i-preserved c =
     let tried : c.first_row.result ≡ first_row i (first_frame e item) = c.first_row.ensures ∙ ap (λ r. first_row i (first_frame e r)) c.in_ok-copy_record.ensures in
     elim c.match-first_row.branch [
       | in-Ok+in_ok-push w ↦
-          w.rows-is ∙ w.in_ok-push.ensures.added ∙ ap (λ l. l ++ w.in-Ok.row ∷ []) c.loop-i.invariant
+          w.rows-is ∙ w.in_ok-push.ensures.added ∙ ap (λ r. c.loop-i.rows ++ r ∷ []) w.into_row.ensures ∙ ap (λ l. l ++ w.in-Ok.row ∷ []) c.loop-i.invariant
           ∙ sym (views_row e (take i records) (take (i + 1) records) item w.in-Ok.row i at grown (sym tried ∙ w.in-Ok.is))
       | in_default w ↦
           w.rows-is ∙ c.loop-i.invariant

@@ -12,25 +12,25 @@ use Rattle.layer_walk.proofs.Telling.{opened_told, counts_told}
 use Rattle.layer_walk.proofs.levels.pass_level.Goals as goal
 
 pub tell_count-requires : goal.tell_count-requires
-tell_count-requires c =
-    omega (arith, ap length c.as_slice-2.ensures.value, outs_few c.args.here.now.level c.args.here.now.groups c.args.outs.items c.requires.level c.requires.groups c.requires.outs)
+tell_count-requires g c =
+    omega (arith, ap length c.as_slice-2.ensures.value, outs_few c.args.here.level c.args.here.groups c.args.outs.items c.requires.level c.requires.groups c.requires.outs)
 
 pub held_by-requires : goal.held_by-requires
-held_by-requires c = outs_few c.args.here.now.level c.args.here.now.groups c.args.outs.items c.requires.level c.requires.groups c.requires.outs
+held_by-requires g c = outs_few c.args.here.level c.args.here.groups c.args.outs.items c.requires.level c.requires.groups c.requires.outs
 
-pub grouper_of-requires : goal.grouper_of-requires
-grouper_of-requires c =
-    let level = c.args.here.now.level in
-    let groups = c.args.here.now.groups in
+pub grouper_after-requires : goal.grouper_after-requires
+grouper_after-requires g c =
+    let level = c.args.here.level in
+    let groups = c.args.here.groups in
     let outs = c.args.outs.items in
     let sorted = c.in_ok-sorted_rows.field-0.items in
     let moved : IsPermutation (kept_from 0 outs) sorted = subst (λ l. IsPermutation l sorted) c.in_ok-rows.ensures.rows c.in_ok-sorted_rows.ensures.moved in
     (is_level level c.requires.level c.requires.number groups c.requires.groups outs c.requires.outs c.in_ok-parents.parents (c.in_ok-parents.ensures ∙ ap (parents_from level groups) c.as_slice-3.ensures.value) sorted moved c.in_ok-sorted_rows.ensures.rises).few
 
 pub returns-clause-tells : goal.returns-clause-tells
-returns-clause-tells c =
-    let level = c.args.here.now.level in
-    let groups = c.args.here.now.groups in
+returns-clause-tells g c =
+    let level = c.args.here.level in
+    let groups = c.args.here.groups in
     let outs = c.args.outs.items in
     let told = c.args.told.now in
     let refusals = c.in_ok-sorted_refusals.field-0.items in
@@ -45,9 +45,9 @@ returns-clause-tells c =
     }
 
 pub returns-clause-after : goal.returns-clause-after
-returns-clause-after c =
-    let level = c.args.here.now.level in
-    let groups = c.args.here.now.groups in
+returns-clause-after g c =
+    let level = c.args.here.level in
+    let groups = c.args.here.groups in
     let outs = c.args.outs.items in
     let sorted = c.in_ok-sorted_rows.field-0.items in
     let moved : IsPermutation (kept_from 0 outs) sorted = subst (λ l. IsPermutation l sorted) c.in_ok-rows.ensures.rows c.in_ok-sorted_rows.ensures.moved in
@@ -56,9 +56,9 @@ returns-clause-after c =
     (is_after level c.requires.level c.requires.number groups c.requires.groups outs c.requires.outs c.in_ok-parents.parents (c.in_ok-parents.ensures ∙ ap (parents_from level groups) c.as_slice-3.ensures.value) sorted moved c.in_ok-sorted_rows.ensures.rises)
 
 pub returns-clause-good : goal.returns-clause-good
-returns-clause-good c =
-    let level = c.args.here.now.level in
-    let groups = c.args.here.now.groups in
+returns-clause-good g c =
+    let level = c.args.here.level in
+    let groups = c.args.here.groups in
     let outs = c.args.outs.items in
     let sorted = c.in_ok-sorted_rows.field-0.items in
     let moved : IsPermutation (kept_from 0 outs) sorted = subst (λ l. IsPermutation l sorted) c.in_ok-rows.ensures.rows c.in_ok-sorted_rows.ensures.moved in

@@ -1,8 +1,10 @@
-use Rattle.std.proofs.Common.{◌≡◌, ◌∙◌, sym, ap, not, true, length, arith, is_ok}
+use Rattle.std.proofs.Common.{◌≡◌, ◌∙◌, sym, ap, not, true, ◌++◌, ◌∷◌, [], length, arith, is_ok}
 use Rattle.std.specs.Prelude.{if◌then◌else◌}
+use Rattle.report_frame.specs.View.{head_of}
+use Rattle.tag_groups.specs.RowView.{RowView}
 use Rattle.tag_groups.specs.Index.{joined}
 use Rattle.tag_groups.proofs.Grown.{groups_grown, few_groups}
-use Rattle.tag_groups.proofs.grouper.Grouper.add.Goals as goal
+use Rattle.tag_groups.proofs.grouper.Grouper.add_headed.Goals as goal
 
 pub join-joined-requires-clause-few : goal.join-joined-requires-clause-few
 join-joined-requires-clause-few c =
@@ -15,8 +17,8 @@ invariant_of-self-else-is_err c =
     let place : c.len-member.result ≡ length rows = c.len-member.ensures ∙ c.self.inside.rows.ok.0 in
     record {
       groups_are = c.join-joined.ensures.groups
-          ∙ ap (λ b. if b then joined c.key_of-key.result c.len-member.result c.self.inside.groups.items else c.self.inside.groups.items) good
-          ∙ (λ i. joined (c.key_of-key.ensures.key i) (place i) (c.self.invariant.groups_are i))
-          ∙ sym (groups_grown rows c.push.new.self.items c.args.row c.in_ok-push.ensures.items);
+          ∙ ap (λ b. if b then joined (record { parent = c.parent.result; head = c.row.inside.head }) c.len-member.result c.self.inside.groups.items else c.self.inside.groups.items) good
+          ∙ (λ i. joined (record { parent = (c.parent.ensures ∙ ap (λ (r : RowView). r.parent) c.row.view_is) i; head = (c.row.invariant.0 ∙ ap (λ (r : RowView). head_of r.report) c.row.view_is) i }) (place i) (c.self.invariant.groups_are i))
+          ∙ sym (groups_grown rows c.push.new.self.items c.args.row (c.in_ok-push.ensures.items ∙ ap (λ r. rows ++ r ∷ []) c.row.view_is));
       finds = c.join-joined.ensures.finds;
     }
