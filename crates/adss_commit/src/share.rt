@@ -59,8 +59,7 @@ fn values_from_block(key: &[u8; 32], block: usize, powers: usize, x: Fe, behind:
     requires few { powers < MAX_THRESHOLD_TWO }
     requires behind { behind
         ≡ values_from key.now (BLOCK_POWERS * (block + 1)) (powers - BLOCK_POWERS * (block + 1)) x }
-    ensures { result ≡ values_from key.now (BLOCK_POWERS * block) (powers - BLOCK_POWERS * block) x
-        }
+    ensures { result ≡ values_from key.now (BLOCK_POWERS * block) (powers - BLOCK_POWERS * block) x }
 {
     let count = (powers - BLOCK_POWERS * block).min(BLOCK_POWERS);
     let coins = coins_of_block(key, block, count);

@@ -47,8 +47,7 @@ fn read_rows2(
 ) -> Result<Table2, TableError>
     requires few { width ≤ max_layers Two }
     requires between { IsBetweenRecords records.old }
-    ensures { IsAnswer Two width (left records.old) (map (row2_of width) (left records.old)) result
-        }
+    ensures { IsAnswer Two width (left records.old) (map (row2_of width) (left records.old)) result }
 {
     let mut record = ByteRecord::new(alloc);
     let mut table = Table2::new(alloc);

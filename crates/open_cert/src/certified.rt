@@ -35,8 +35,7 @@ pub(crate) fn certify(
     requires room { length (parent_at level.now.parents group.now.parent).path < MAX_STEPS }
     requires out { IsOut level.now group.now out.now }
     requires points { points ≡ group_points level.now group.now }
-    requires line { HasLine (group_points level.now group.now) group.now.head.k line out.now.outcome
-        }
+    requires line { HasLine (group_points level.now group.now) group.now.head.k line out.now.outcome }
     ensures { IfOk result (λ made. option_to_list made
         ≡ certified_under level.now group.now out.now.outcome) }
 {

@@ -187,6 +187,15 @@ pub(crate) fn ends_so<R: Threads + Sync>(
     Ok(true)
 }
 
+// Whether a case bears each failing take of its input and of its coins, and each failing put.
+fn bears_each_fault<R: Threads + Sync>(rt: &R, alloc: Global, case: &Case) -> Result<bool, Fail> {
+    Ok(
+        bears_failing_takes(rt, alloc, case, 9)?
+            && bears_failing_coins(rt, alloc, case, 9)?
+            && bears_failing_puts(rt, alloc, case)?,
+    )
+}
+
 // The text of an empty input to `check`.
 const CHECKED: &[u8] = b"records=0 good=0 refused=0\n";
 
@@ -206,7 +215,7 @@ const RED: &[u8] =
     b"\x00\x00\x00\x8d\x53\x54\x01\x00\x00\x00\x00\x01\x00\x02\x06\xb8\xe0\xad\xa0\xf1\x3d\x91\x0b\x79\xc5\x9d\x12\x73\x28\x79\x08\x81\xd8\xd7\xcf\x3f\xcb\x23\x03\x56\xf5\xca\xe5\xcc\xc5\x8f\xf6\x7d\x67\x87\x17\xbd\xf3\xb1\xda\x3e\x31\x81\x1c\xf2\xae\x3b\x44\x81\x6b\xc0\x21\x97\x30\x80\x80\x58\x60\xf2\xca\x6d\x34\x5b\xa6\xb0\x48\x39\xdd\xa5\x68\x52\xe7\x95\x5c\x27\xb0\x84\x70\x4b\x03\xf8\xd0\x5b\x40\x5d\x6a\xe5\x53\x86\xbd\x28\xbd\xd2\x19\xb8\x00\x01\x0d\x30\x52\x52\x36\x5b\x25\xa5\x7e\xdd\xc6\x95\xd8\x91\x1b\x06\xed\x8d\x86\x70\xd5\x55\x34\x75\xfe\x2e\x73\xcb\x25\x78\xd6\x40\xc0";
 
 #[test]
-fn each_verb_bears_each_fault(rt: HostRuntime) -> Result<(), Fail> {
+fn verbs_on_reports_bear_each_fault(rt: HostRuntime) -> Result<(), Fail> {
     let alloc = rt.alloc();
     let reds = made_stream(&rt, alloc, "--epoch 1 --thresholds 2", "red\nred\n")?;
     let cases = [
@@ -217,21 +226,43 @@ fn each_verb_bears_each_fault(rt: HostRuntime) -> Result<(), Fail> {
         Case::new("selftest", b"", VECTORS_TOLD),
     ];
     for case in &cases {
-        assert!(rt;
-            bears_failing_takes(&rt, alloc, case, 9)?,
-            "takes, {}",
-            case.line
-        );
-        assert!(rt;
-            bears_failing_coins(&rt, alloc, case, 9)?,
-            "coins, {}",
-            case.line
-        );
-        assert!(rt;
-            bears_failing_puts(&rt, alloc, case)?,
-            "puts, {}",
-            case.line
-        );
+        assert!(rt; bears_each_fault(&rt, alloc, case)?, "{}", case.line);
+    }
+    Ok(())
+}
+
+const EXPECT: &str =
+    "expect --epoch 1 --thresholds 2 --seed 0000000000000000000000000000000000000000000000000000000000000000";
+
+const EXPECTED: &[u8] = b"open red~2 points=2 agree=2 members=2\nprefixes=1 clear=yes\n";
+
+// The book of no record for epoch 1.
+const EMPTY_BOOK: &[u8] = b"STARBOOK\x01\x00\x00\x00\x01\x00\x00\x00\x00\x00\x00\x00\x00";
+
+const NOTHING_OPENED: &[u8] = b"records=0 rows=0 refused=0\n";
+
+const EPOCHS_TOLD: &[u8] =
+    b"epoch 1\nopen red~2 points=2 agree=2 members=2\nlevel 0 opened=1 few=0 noline=0 badvalue=0\nrecords=2 rows=2 refused=0\nrecords=2 epochs=1 refused=0\n";
+
+// The certificate of the reports of `red` of two clients.
+const REDS_CERTIFIED: &[u8] =
+    b"STARCERT\x01\x01\x00\x00\x00\x00\x01\x00\x02\x00\x00\x00\x00\x00\x00\x00\x00\x00\x00\x00\x00\x00\x00\x00\x00\x00\x00\x00\x00\x00\x00\x00\x00\x00\x00\x00\x00\x00\x00\x00\x00\xf6\x7d\x67\x87\x17\xbd\xf3\xb1\xda\x3e\x31\x81\x1c\xf2\xae\x3b\x44\x81\x6b\xc0\x21\x97\x30\x80\x80\x58\x60\xf2\xca\x6d\x34\x5b\xa6\xb0\x48\x39\xdd\xa5\x68\x52\xe7\x95\x5c\x27\xb0\x84\x70\x4b\x03\xf8\xd0\x5b\x00\x00\x00\x02\x06\xb8\xe0\xad\xa0\xf1\x3d\x91\x0b\x79\xc5\x9d\x12\x73\x28\x79\x08\x81\xd8\xd7\xcf\x3f\xcb\x23\x03\x56\xf5\xca\xe5\xcc\xc5\x8f\x0f\x3f\xdf\xd6\xc6\x15\x78\xfc\x14\x2a\x59\xd9\x35\xb8\xfd\x65\x1b\x4a\x6a\x9d\x23\x17\x0d\xd6\x1c\xab\xd1\x4a\x61\x3d\xb1\xc0\x00\x00\x0f\x83\xa5\x54\xaf\x5c\x18\xe4\x2d\x37\x1c\x75\xe3\x8f\x00\x00\x00\x7e\xc2\xd1\xfe\x4a\x04\x34\x98\x0a\x6a\x67\xea\xde\x00\x00\x00\xe2\x73\xa8\x6c\x75\x15\xf9\x2c\x48\x08\x57\x62\xe2";
+
+#[test]
+fn verbs_on_sums_and_proofs_bear_each_fault(rt: HostRuntime) -> Result<(), Fail> {
+    let alloc = rt.alloc();
+    let reds = made_stream(&rt, alloc, "--epoch 1 --thresholds 2", "red\nred\n")?;
+    let cases = [
+        Case::new(EXPECT, b"red\nred\n", EXPECTED),
+        Case::new("book --epoch 1", b"", EMPTY_BOOK),
+        Case::new("merge --epoch 1", EMPTY_BOOK, EMPTY_BOOK),
+        Case::new("openbook --epoch 1", EMPTY_BOOK, NOTHING_OPENED),
+        Case::new("certify --epoch 1", &reds, REDS_CERTIFIED),
+        Case::new("audit", b"", b"certs=0 yes=0\n"),
+        Case::new("epochs", &reds, EPOCHS_TOLD),
+    ];
+    for case in &cases {
+        assert!(rt; bears_each_fault(&rt, alloc, case)?, "{}", case.line);
     }
     Ok(())
 }

@@ -35,8 +35,7 @@ pub(crate) fn gen_output<R: Threads + Sync, G: Gate>(
     requires trial { IsTrial reports liars }
     requires workers { AreWorkers workers }
     ensures output { IfOk result (Makes (Command.Gen number reports liars workers) unseen unseen) }
-    ensures reason { IfErr result (Reason (Command.Gen number reports liars workers) unseen unseen)
-        }
+    ensures reason { IfErr result (Reason (Command.Gen number reports liars workers) unseen unseen) }
 {
     let stream = gen_text(alloc, number, reports, liars)?;
     let walk = walk_over(alloc, TRIAL_EPOCH, &mut StreamSource::new(&stream))?;
