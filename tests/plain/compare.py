@@ -1,10 +1,11 @@
 #!/usr/bin/env python3
 """Compares the built program with the plain client, aggregator and auditor, on random inputs.
 
-    compare.py PROGRAM [--cases N] [--seed S] [--jobs J]
+    compare.py PROGRAM [--cases N] [--seed S] [--jobs J] [--seconds T]
 
 N cases, 300 where not given, go to each of the three: a case is a command line and an input, and
-is a function of S and its number. Exit status, standard output and standard error must be equal.
+is a function of S and its number. Exit status, standard output and standard error must be equal,
+and a run that has no end within T seconds, 600 where not given, is a difference.
 The last lines say how often each answer was reached; the status is 1 where a case differs, or
 where 300 cases or more didn't reach one of the answers that are listed here.
 """
@@ -26,11 +27,9 @@ import commands
 import damage
 import streams
 import tables
-
 from shared import MOST_RECORDS
 
 HERE = os.path.dirname(os.path.abspath(__file__))
-SECONDS = 600
 FRAME_FAULTS = (
     "Truncated Magic Version Level Threshold Point Share BoxLength BodyLength Trailing TooLong"
 ).split()
@@ -195,51 +194,55 @@ def reached(family, words, data, answer):
 # Running.
 
 
-def by_program(program, words, data):
-    """The answer of the built program."""
+def by_program(command, data, seconds):
+    """The answer of a program."""
     try:
-        done = subprocess.run([program, *words], input=data, capture_output=True, timeout=SECONDS)
+        done = subprocess.run(command, input=data, capture_output=True, timeout=seconds)
     except subprocess.TimeoutExpired:
         return "no end", b"", ""
     return done.returncode, done.stdout, done.stderr.decode()
 
 
-def by_plain_process(family, words, data):
-    """The answer of a plain program, run as a process."""
-    script = os.path.join(HERE, family + ".py")
-    return by_program(sys.executable, ["-B", script, *words], data)
+def told(answer):
+    """What an answer is, in a few words."""
+    status, output, complaint = answer
+    return f"{status} {complaint[:60]!r} {len(output)} bytes, the last {output[-60:]!r}"
 
 
-def run_case(family, seed, number, program):
-    """Whether the answers to a case are equal, and what it reached."""
+def without_seed(words, answer):
+    """The answer, but of a stream under a seed that was drawn only the length."""
+    drawn = words and words[0] == "make" and "seed" not in " ".join(words)
+    return (answer[0], bytes(len(answer[1])), answer[2]) if drawn else answer
+
+
+def run_case(family, number, options):
+    """How the answers to a case differ, or nothing, and what it reached."""
     make_case, verbs = FAMILIES[family]
-    words, data = make_case(random.Random(f"{seed} {family} {number}"), number)
+    words, data = make_case(random.Random(f"{options.seed} {family} {number}"), number)
     wanted = commands.run(verbs, words, lambda: data)
-    answers = [by_program(program, words, data)]
+    runs = [[options.program]]
     if number % 50 == 49:
-        answers.append(by_plain_process(family, words, data))
-    if words and words[0] == "make" and "seed" not in " ".join(words) and wanted[0] == 0:
-        wanted, answers = (0, len(wanted[1])), [(a[0], len(a[1])) for a in answers]
-        return answers == [wanted] * len(answers), words, []
-    same = answers == [wanted] * len(answers)
-    return same, words, reached(family, words, data, wanted)
+        runs.append([sys.executable, "-B", os.path.join(HERE, family + ".py")])
+    difference = ""
+    for run in runs:
+        answer = by_program([*run, *words], data, options.seconds)
+        if without_seed(words, answer) != without_seed(words, wanted):
+            difference = f"{' '.join(words)}\n  wanted {told(wanted)}\n  got {told(answer)}"
+    return difference, reached(family, words, data, wanted)
 
 
 def run_family(executor, family, options):
     """Runs the cases of one of the three; gives the number of differences and the counts."""
     numbers = range(options.cases)
-    tries = [
-        executor.submit(run_case, family, options.seed, number, options.program)
-        for number in numbers
-    ]
+    tries = [executor.submit(run_case, family, number, options) for number in numbers]
     counts = collections.Counter()
     differences = 0
     for number, it in zip(numbers, tries):
-        same, words, found = it.result()
+        difference, found = it.result()
         counts.update(set(found))
-        if not same:
+        if difference:
             differences += 1
-            print(f"{family}, case {number} differs: {' '.join(words)}")
+            print(f"{family}, case {number} differs: {difference}", flush=True)
     return differences, counts
 
 
@@ -250,6 +253,7 @@ def main():
     parser.add_argument("--cases", type=int, default=300)
     parser.add_argument("--seed", default="1")
     parser.add_argument("--jobs", type=int, default=os.cpu_count())
+    parser.add_argument("--seconds", type=float, default=600)
     options = parser.parse_args()
     failed = 0
     with concurrent.futures.ProcessPoolExecutor(options.jobs) as executor:
@@ -257,7 +261,7 @@ def main():
             differences, counts = run_family(executor, family, options)
             missing = [name for name in WANTED[family] if not counts[name]]
             failed += differences + (len(missing) if options.cases >= 300 else 0)
-            print(f"{family}: {options.cases} cases, {differences} differences")
+            print(f"{family}: {options.cases} cases, {differences} differences", flush=True)
             print("  reached: " + ", ".join(f"{name} {counts[name]}" for name in WANTED[family]))
             if missing:
                 print("  never reached: " + ", ".join(missing))

@@ -9,6 +9,8 @@ from shared import (
     VERSIONS,
     Context,
     P,
+    key_of,
+    limbs_of,
     open_box,
     polynomials_of,
     read_frame,
@@ -16,7 +18,7 @@ from shared import (
     value_at,
     write_frame,
 )
-from streams import VALUES, flipped, stream_of, with_bytes, wrong_shares
+from streams import VALUES, flipped, next_key, stream_of, with_bytes, wrong_shares
 
 # Books.
 
@@ -40,7 +42,8 @@ def odd_entries(rng, book):
         frames[-1] = write_frame(read_frame(frames[-1])._replace(level=1))
     counts = [book.counts[frame] or 1 for frame in frames]
     if kind >= 4:
-        counts[rng.randrange(len(counts))] = rng.choice([0, 131_072, 131_073, 2**32 - 1])
+        pool = rng.choice([[1, 0], [1, 131_073], [65_536, 65_537]])
+        counts = [rng.choice(pool) for _ in counts]
     return b"".join(entry(count, frame) for count, frame in zip(counts, frames)), len(frames)
 
 
@@ -129,6 +132,19 @@ def odd_polynomials(rng, certificate):
     return certificate._replace(polynomials=polynomials)
 
 
+def other_key(certificate):
+    """A certificate of the same value and head, but with points and polynomials of another key."""
+    c = certificate
+    right = key_of([polynomial[0] for polynomial in c.polynomials])
+    wrong = next_key(right)
+    lowest = limbs_of(wrong)[2]
+    shift = lowest - c.polynomials[2][0]
+    points = [(x, (y0, y1, (y2 + shift) % P)) for x, (y0, y1, y2) in c.points]
+    polynomials = [*c.polynomials[:2], [lowest, *c.polynomials[2][1:]]]
+    box = open_box(c.version, wrong, open_box(c.version, right, c.box))
+    return c._replace(points=points, polynomials=polynomials, box=box)
+
+
 def odd_fields(rng, certificate):
     """A certificate with another field changed."""
     c = certificate
@@ -166,6 +182,16 @@ def odd_bytes(rng, certificate):
     return flipped(rng, data)
 
 
+def odd_certificate(rng, certificate):
+    """A certificate that is wrong somewhere."""
+    kind = rng.randrange(9)
+    if kind < 2:
+        return odd_points(rng, certificate)
+    if kind < 6:
+        return odd_polynomials(rng, certificate)
+    return odd_fields(rng, certificate) if kind < 8 else other_key(certificate)
+
+
 def certificates_of(rng):
     """Certificates one behind the other, some of them damaged."""
     parts = []
@@ -175,8 +201,7 @@ def certificates_of(rng):
         if chance < 0.5:
             parts.append(write_certificate(certificate))
         elif chance < 0.85:
-            change = rng.choice([odd_points, odd_polynomials, odd_polynomials, odd_fields])
-            parts.append(write_certificate(change(rng, certificate)))
+            parts.append(write_certificate(odd_certificate(rng, certificate)))
         else:
             parts.append(odd_bytes(rng, certificate))
     return b"".join(parts)

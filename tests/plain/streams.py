@@ -5,7 +5,7 @@ of the seed of that generator.
 """
 
 from client import contexts_of, make_frame, sealed
-from shared import VERSIONS, P, write_frame, write_record
+from shared import VERSIONS, P, open_box, write_frame, write_record
 
 EPOCHS = [0, 1, 7, 2**32 - 1]
 VALUES = [b"red", b"DE", b"a/b", b"ab", b"a", b"\xff\x00", "Zürich".encode(), b"~", b"z" * 64]
@@ -101,6 +101,21 @@ def wrong_shares(rng, shares):
     return tuple(share % P for share in wrong)
 
 
+def next_key(key):
+    """The key whose last limb is one more, modulo 2^40."""
+    return key[:11] + ((int.from_bytes(key[11:], "big") + 1) % 2**40).to_bytes(5, "big")
+
+
+def with_wrong_head(context, frame, kind):
+    """A frame with a wrong tag, check or box, or whose shares and box are those of another key."""
+    if kind != "key":
+        right = getattr(frame, kind)
+        return frame._replace(**{kind: bytes([right[0] ^ 1]) + right[1:]})
+    y0, y1, y2 = frame.shares
+    box = open_box(context.version, next_key(context.key), context.value)
+    return frame._replace(shares=(y0, y1, (y2 + 1) % P), box=box)
+
+
 ODD = "odd bodies"
 HABITS = [(), ("lies",), ("wrong head",), ("swaps",), (ODD,), (ODD,), (ODD,), ("lies", ODD)]
 
@@ -122,9 +137,14 @@ class Population:
             self.count = rng.choice([5, 8, 13])
             self.thresholds = [rng.choice([2, 3]) for _ in range(rng.choice([1, 2, 2, 2, 3]))]
             self.values = self.values[:1]
+        if "swaps" in habits:
+            self.count = 13
+            self.thresholds = [2, 2, 3]
+            self.values = rng.sample(VALUES, 2)
         self.lies = rng.choice([0.1, 0.3]) if "lies" in habits else 0
         self.odd_bodies = rng.choice([0.2, 0.8, 0.8]) if ODD in habits else 0
-        self.wrong_head = rng.choice(["tag", "check", "box"]) if "wrong head" in habits else None
+        heads = ["tag", "check", "box", "key"]
+        self.wrong_head = rng.choice(heads) if "wrong head" in habits else None
         self.swaps = "swaps" in habits
         self.bodies = {}
 
@@ -141,8 +161,7 @@ class Population:
     def bent(self, context, frame):
         """The frame, or one with a wrong share or a wrong head; the seal is right."""
         if self.wrong_head and context.level == 0 and self.rng.random() < 0.7:
-            right = getattr(frame, self.wrong_head)
-            frame = frame._replace(**{self.wrong_head: bytes([right[0] ^ 1]) + right[1:]})
+            frame = with_wrong_head(context, frame, self.wrong_head)
         if self.rng.random() < self.lies:
             frame = frame._replace(shares=wrong_shares(self.rng, frame.shares))
         return sealed(context, frame)
