@@ -5,7 +5,7 @@ ghost use Rattle.tag_groups.specs.Grouped.{groups_of};
 use crate::level::{Level, Parents};
 use star_io::NoMemory;
 use std::alloc::Global;
-use std::thread::{Threads, join};
+use std::thread::{self, Threads};
 use tag_groups::{Grouped, Grouper, Groups, Row};
 
 /// A level, and the groups of its rows.
@@ -51,7 +51,7 @@ pub(crate) fn grouper_of(alloc: Global, rows: Vec<Row>) -> Result<Grouper, NoMem
 }
 
 /// The rows as a grouper takes them, in their order. What was before is dropped: where there are
-/// several workers, by another thread while the rows are grouped.
+/// several workers, by another thread beside all that follows, which nobody waits for.
 pub(crate) fn grouper_after<R: Threads>(
     rt: &R,
     alloc: Global,
@@ -62,16 +62,12 @@ pub(crate) fn grouper_after<R: Threads>(
     requires { length rows.items < 2 ^ 32 }
     ensures { IfOk result (λ grouper. grouper ≡ rows.items) }
 {
-    if workers < 2 {
-        return grouper_of(alloc, rows);
+    if workers > 1 {
+        let free = move || drop(before);
+        // Where no thread can be made, it is dropped at once.
+        drop(thread::spawn(rt, free));
     }
-    let free = move || drop(before);
-    let group = move || -> Result<Grouper, NoMemory>
-        requires { length rows.items < 2 ^ 32 }
-        ensures { IfOk result (λ grouper. grouper ≡ rows.items) }
-    { grouper_of(alloc, rows) };
-    let (_, grouper) = join(rt, free, group);
-    grouper
+    grouper_of(alloc, rows)
 }
 
 /// The level with the groups of its rows. Nothing is copied.
