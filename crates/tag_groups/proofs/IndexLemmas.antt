@@ -1,9 +1,10 @@
 -- One more member in the group of a key, and the place that a map finds.
-use Rattle.std.proofs.Common.{◌≡◌, ℕ, suc, Bool, true, false, cond, ◌&&◌, List, [], ◌∷◌, ◌++◌, Option, Some, None, length, refl, sym, ap, ◌∙◌, subst, get_or, eqb, eqb-true, eq-eqb}
+use Rattle.std.proofs.Common.{◌≡◌, ℕ, zero, suc, ◌<◌, Bool, true, false, cond, ◌&&◌, List, [], ◌∷◌, ◌++◌, Option, Some, None, length, refl, sym, ap, ◌∙◌, subst, get_or, eqb, eqb-true, eq-eqb, arith}
 use Rattle.std.proofs.Math.ListN.{set}
 use Rattle.std.proofs.lemmas.Option.{same_Some, none-some}
 use Rattle.std.specs.Option.{option_map}
 use Rattle.std.specs.Prelude.{if◌then◌else◌, Result, Ok, Err, OnOk, OnErr, is_ok}
+use Rattle.std.specs.List.{AllPairs}
 use Rattle.std.specs.Map.{lookup}
 use Rattle.std.proofs.lemmas.List.{set-get_or}
 use Rattle.std.specs.Ordering.{is_eq}
@@ -18,6 +19,7 @@ use Rattle.tag_groups.specs.declared.key.Rank.{Rank}
 use Rattle.tag_groups.specs.contracts.key.RankOrd.TheImpl.Laws.{matches_eq-law}
 use Rattle.tag_groups.specs.GroupView.{GroupView}
 use Rattle.tag_groups.specs.Index.{front_of, rank_of, rank_cmp, has_key, Finds, with_member, new_group, joined}
+use Rattle.tag_groups.specs.Laws.{AreApart}
 use Rattle.tag_groups.proofs.Keys.{same_head_is}
 use Rattle.std.specs.Cmp.{first_so, second_so}
 use Rattle.star_lists.specs.Places.{place_of}
@@ -81,6 +83,13 @@ key_is key q n h =
     let head : key.head ≡ q.head = same_head_is key.head q.head (second_so (eqb key.parent q.parent) _ h) in
     λ i. record { parent = parent i; head = head i }
 
+-- groups of one key have one parent and one head
+one_key : (key : Key) (f g : GroupView) → has_key key f ≡ true → has_key key g ≡ true → (f.parent ≡ g.parent) × (f.head ≡ g.head)
+one_key key f g h k = (
+  eqb-true f.parent key.parent (first_so _ _ h) ∙ sym (eqb-true g.parent key.parent (first_so _ _ k)),
+  same_head_is f.head key.head (second_so (eqb f.parent key.parent) _ h) ∙ sym (same_head_is g.head key.head (second_so (eqb g.parent key.parent) _ k)),
+)
+
 -- nothing holds beside what doesn't
 no_more : (b : Bool) → (b && false) ≡ false
 no_more true = refl
@@ -128,3 +137,13 @@ none_groups key n gs news false none is = is
 pub none_finds : {A B : Type 0} (r : Result A B) (key : Key) (n : ℕ) (gs news : List GroupView) (old new : BTreeMap Rank ℕ) → Finds old gs → place_of (has_key key) gs ≡ None → OnOk r (Updates rank_cmp old new (rank_of key) (Some (length gs))) → OnErr r (IsUnchanged old new) → news ≡ (if is_ok r then gs ++ new_group key n ∷ [] else gs) → Finds new news
 none_finds (Ok x) key n gs news old new was none updates kept is q = finds_new key n gs old new was none updates q ∙ ap (place_of (has_key q)) (sym is)
 none_finds (Err e) key n gs news old new was none updates kept is q = ap (lookup (is_at (rank_cmp (rank_of q)))) kept ∙ was q ∙ ap (place_of (has_key q)) (sym is)
+
+-- a group with the key, where groups differ, stands at the place of the key
+pub place_here : (key : Key) (gs : List GroupView) (p : ℕ) (g : GroupView) → AllPairs AreApart gs → p < length gs → g ≡ get_or gs p g → has_key key g ≡ true → place_of (has_key key) gs ≡ Some p
+place_here key [] p g apart lt at is = absurd (omega (arith, lt))
+place_here key (f ∷ fs) zero g apart lt at is = ap (λ b. if b then Some 0 else later (place_of (has_key key) fs)) (subst (λ x. has_key key x ≡ true) at is)
+place_here key (f ∷ fs) (suc p) g apart lt at is =
+    elim (has_key key f) as (λ b. has_key key f ≡ b → (if b then Some 0 else later (place_of (has_key key) fs)) ≡ Some (suc p)) [
+      | true ↦ λ h. absurd (apart 0 (suc p) g (omega arith) lt (subst (λ x. (f.parent ≡ x.parent) × (f.head ≡ x.head)) at (one_key key f g h is)))
+      | false ↦ λ h. ap later (place_here key fs p g (λ i j d above below. apart (suc i) (suc j) d (omega (arith, above)) (omega (arith, below))) (omega (arith, lt)) at is)
+    ] refl

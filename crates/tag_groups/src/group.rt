@@ -1,8 +1,9 @@
 ghost use Rattle.std.specs.Prelude.{◌≡◌, ◌≤◌, is_ok, if◌then◌else◌};
 ghost use Rattle.report_frame.specs.declared.limits.TheConstants.{MIN_THRESHOLD};
 ghost use Rattle.report_frame.specs.Versions.{max_threshold};
-ghost use Rattle.tag_groups.specs.Index.{with_member};
+ghost use Rattle.tag_groups.specs.Index.{has_key, with_member};
 
+use crate::key::Key;
 use crate::listed::Listed;
 use report_frame::Head;
 use star_io::NoMemory;
@@ -50,6 +51,13 @@ impl Group {
         ensures { result.now ≡ self.now.members }
     {
         self.members.as_slice()
+    }
+
+    /// Whether it is the group of the key.
+    pub(crate) fn is_of(&self, key: &Key) -> bool
+        ensures { result ≡ has_key key.now self.now }
+    {
+        self.parent == key.parent && self.head == key.head
     }
 
     /// Puts a place last. After `NoMemory` the group is as before.

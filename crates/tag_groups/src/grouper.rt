@@ -1,13 +1,17 @@
 // Grouping rows as they come.
 ghost use Rattle.std.specs.Prelude.{◌≡◌, ◌<◌, ◌-◌, ◌^◌, [], ◌∷◌, ◌++◌, length, is_ok, if◌then◌else◌, OnOk, OnErr, Some};
 ghost use Rattle.std.specs.BTreeMap.{Updates, IsUnchanged};
+ghost use Rattle.std.specs.List.{AllPairs};
 ghost use Rattle.tag_groups.specs.Keys.{HasThreshold};
 ghost use Rattle.tag_groups.specs.Grouped.{groups_of};
-ghost use Rattle.tag_groups.specs.Index.{Finds, rank_cmp, joined, new_group};
+ghost use Rattle.tag_groups.specs.Index.{Finds, rank_cmp, rank_of, has_key, joined, new_group};
+ghost use Rattle.tag_groups.specs.Laws.{AreApart};
+ghost use Rattle.star_lists.specs.Places.{place_of};
 
 use crate::group::{Group, Groups};
 use crate::key::{Key, Rank, rank_of};
 use crate::listed::Listed;
+use crate::recent::Recent;
 use crate::row::{HeadedRow, Row, Rows};
 use report_frame::Head;
 use star_io::NoMemory;
@@ -15,14 +19,15 @@ use std::alloc::Global;
 use std::collections::BTreeMap;
 use std::marker::Model;
 
-/// Rows that are grouped as they come. An ordered map finds the group of a row, so no choice of
-/// heads makes it slow.
+/// Rows that are grouped as they come. The group of a row is one that was met lately, or an ordered
+/// map finds it, so no choice of heads makes it slow.
 #[derive(Drop)]
 pub struct Grouper {
     alloc: Global,
     rows: Vec<Row>,
     groups: Vec<Group>,
     places: BTreeMap<Rank, u32>,
+    recent: Recent,
 }
 
 impl Model for Grouper {
@@ -55,6 +60,7 @@ impl Grouper {
             rows: Vec::new(alloc),
             groups: Vec::new(alloc),
             places: BTreeMap::new(alloc),
+            recent: Recent::new(alloc),
         }
     }
 
@@ -79,8 +85,16 @@ impl Grouper {
             head,
         };
         let member = self.rows.len() as u32;
+        self.recent.grow(self.alloc, member);
         self.rows.push(row)?;
-        let joined = join(self.alloc, &mut self.groups, &mut self.places, key, member);
+        let joined = join(
+            self.alloc,
+            &mut self.groups,
+            &mut self.places,
+            &mut self.recent,
+            key,
+            member,
+        );
         if joined.is_err() {
             self.rows.pop();
         }
@@ -104,10 +118,12 @@ fn join(
     alloc: Global,
     groups: &mut Vec<Group>,
     places: &mut BTreeMap<Rank, u32>,
+    recent: &mut Recent,
     key: Key,
     member: u32,
 ) -> Result<(), NoMemory>
     requires finds { Finds places.old groups.old.items }
+    requires apart { AllPairs AreApart groups.old.items }
     requires few { length groups.old.items < 2 ^ 32 }
     requires threshold { HasThreshold key.head }
     ensures groups { groups.new.items
@@ -115,9 +131,36 @@ fn join(
     ensures finds { Finds places.new groups.new.items }
 {
     let rank = rank_of(key);
-    match places.get(&rank).copied() {
-        Some(place) => groups[place as usize].add_member(member),
-        None => begin(alloc, groups, places, rank, member),
+    match find(groups, places, recent, &rank) {
+        Some(place) => {
+            recent.put(rank.front, place);
+            groups[place as usize].add_member(member)
+        }
+        None => {
+            recent.put(rank.front, groups.len() as u32);
+            begin(alloc, groups, places, rank, member)
+        }
+    }
+}
+
+// The place of the group of this rank's key: that in its slot where this group has the key, else
+// what the map says.
+fn find(
+    groups: &Vec<Group>,
+    places: &BTreeMap<Rank, u32>,
+    recent: &Recent,
+    rank: &Rank,
+) -> Option<u32>
+    requires finds { Finds places.now groups.now.items }
+    requires apart { AllPairs AreApart groups.now.items }
+    requires rank { rank.now ≡ rank_of rank.now.key }
+    ensures { result ≡ place_of (has_key rank.now.key) groups.now.items }
+{
+    let place = recent.place(rank.front);
+    if (place as usize) < groups.len() && groups[place as usize].is_of(&rank.key) {
+        Some(place)
+    } else {
+        places.get(rank).copied()
     }
 }
 

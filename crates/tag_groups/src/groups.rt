@@ -38,13 +38,7 @@ pub fn group_rows(alloc: Global, rows: &[Row]) -> Result<Groups, NoMemory>
 fn has_group(groups: &Vec<Group>, key: &Key) -> bool
     ensures { result ≡ list_any (has_key key.now) groups.now.items }
 {
-    groups.iter().any(|group| is_group_of(group, key))
-}
-
-fn is_group_of(group: &Group, key: &Key) -> bool
-    ensures { result ≡ has_key key.now group.now }
-{
-    group.parent == key.parent && group.head == key.head
+    groups.iter().any(|group| group.is_of(key))
 }
 
 // The places of the rows with this key.

@@ -8,6 +8,7 @@ mod key;
 pub mod laws;
 mod listed;
 mod points;
+mod recent;
 mod row;
 
 pub use group::{Group, Groups};

@@ -1,14 +1,20 @@
-use Rattle.std.proofs.Common.{◌≡◌, ◌∙◌, sym, ap, not, true, ◌++◌, ◌∷◌, [], length, arith, is_ok}
+use Rattle.std.proofs.Common.{◌≡◌, ◌∙◌, sym, ap, subst, not, true, ◌++◌, ◌∷◌, [], length, arith, is_ok}
 use Rattle.std.specs.Prelude.{if◌then◌else◌}
+use Rattle.std.specs.List.{AllPairs}
 use Rattle.report_frame.specs.View.{head_of}
 use Rattle.tag_groups.specs.RowView.{RowView}
 use Rattle.tag_groups.specs.Index.{joined}
+use Rattle.tag_groups.specs.Laws.{AreApart}
+use Rattle.tag_groups.proofs.GroupLaws.{are_apart}
 use Rattle.tag_groups.proofs.Grown.{groups_grown, few_groups}
 use Rattle.tag_groups.proofs.grouper.Grouper.add_headed.Goals as goal
 
 pub join-joined-requires-clause-few : goal.join-joined-requires-clause-few
 join-joined-requires-clause-few c =
     omega (arith, ap length c.self.invariant.groups_are, few_groups c.self.inside.rows.items, ap length c.self.view_is, c.requires)
+
+pub join-joined-requires-clause-apart : goal.join-joined-requires-clause-apart
+join-joined-requires-clause-apart c = subst (AllPairs AreApart) (sym c.self.invariant.groups_are) (are_apart c.self.inside.rows.items)
 
 pub invariant_of-self-else-is_err : goal.invariant_of-self-else-is_err
 invariant_of-self-else-is_err c =
