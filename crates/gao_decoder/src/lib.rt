@@ -15,8 +15,6 @@ pub use decoder::{decode, decode_short, decode_through};
 pub use scratch::Scratch;
 
 #[cfg(test)]
-mod tests;
-#[cfg(test)]
 mod tests_compare;
 #[cfg(test)]
 mod tests_table;

@@ -2,6 +2,7 @@
 ghost use Rattle.std.specs.Prelude.{◌≡◌, ◌<◌, ◌+◌, ◌^◌, ℕ, length, slice_index, IfOk};
 
 use crate::sampling::decode_sampled;
+use crate::tests_table::points;
 use crate::whole::{decode_by_halving, decode_by_sequence};
 use crate::{Scratch, decode, decode_short};
 use field61::Fe;
@@ -50,19 +51,6 @@ fn next(s: Fe) -> Fe {
     s.mul(s).add(Fe::new(1234567890123457).unwrap_or(Fe::ONE))
 }
 
-// The points 1, 2, .. n.
-fn points(alloc: Global, n: usize) -> Result<Vec<Fe>, NoMemory>
-    requires { n < 2 ^ 32 }
-    ensures length { IfOk result (λ xs. length xs.items ≡ n) }
-    ensures places { IfOk result (λ xs. (i : ℕ) → i < n → slice_index xs.items i ≡ i + 1) }
-{
-    let mut xs = Vec::new(alloc);
-    for i in 0..n {
-        xs.push(Fe::new(i as u64 + 1).unwrap_or(Fe::ZERO))?;
-    }
-    Ok(xs)
-}
-
 // A polynomial that looks random.
 fn polynomial(alloc: Global, k: usize, seed: Fe) -> Result<Poly, NoMemory> {
     let mut f = Poly::with_room(alloc, k)?;
@@ -98,12 +86,7 @@ fn values(alloc: Global, xs: &[Fe], case: Case) -> Result<Vec<Fe>, NoMemory>
 }
 
 fn are_same(f: &Poly, g: &Poly, k: usize) -> bool {
-    for i in 0..k {
-        if f.coefficient(i) != g.coefficient(i) {
-            return false;
-        }
-    }
-    true
+    (0..k).all(|i| f.coefficient(i) == g.coefficient(i))
 }
 
 // Whether the five ways agree. The quick ones may find nothing.

@@ -1,7 +1,7 @@
 // Tables of points, decoded.
 ghost use Rattle.std.specs.Prelude.{◌≡◌, ◌<◌, ◌+◌, ◌^◌, ℕ, length, slice_index, IfOk};
 
-use crate::{Scratch, decode};
+use crate::{Scratch, decode, decode_short};
 use field61::Fe;
 use poly61::Poly;
 use star_io::NoMemory;
@@ -9,7 +9,7 @@ use std::alloc::Global;
 use std::test::Fail;
 
 // The points 1, 2, .. n.
-fn points(alloc: Global, n: usize) -> Result<Vec<Fe>, NoMemory>
+pub(crate) fn points(alloc: Global, n: usize) -> Result<Vec<Fe>, NoMemory>
     requires { n < 2 ^ 32 }
     ensures length { IfOk result (λ xs. length xs.items ≡ n) }
     ensures places { IfOk result (λ xs. (i : ℕ) → i < n → slice_index xs.items i ≡ i + 1) }
@@ -65,6 +65,60 @@ fn halves(alloc: Global, xs: &[Fe], zeros: usize) -> Result<Vec<Fe>, NoMemory>
         ys.push(if i < zeros { Fe::ZERO } else { Fe::ONE })?;
     }
     Ok(ys)
+}
+
+// These numbers as elements, 0 for what is none.
+fn elements(alloc: Global, numbers: &[u64]) -> Result<Vec<Fe>, NoMemory>
+    ensures { IfOk result (λ ys. length ys.items ≡ length numbers.now) }
+{
+    let mut ys = Vec::new(alloc);
+    'elements: for i in 0..numbers.len() {
+        ys.push(Fe::new(numbers[i]).unwrap_or(Fe::ZERO))?;
+    }
+    Ok(ys)
+}
+
+// The values of 2x + 3 at 1 to 4 with one wrong, with two wrong, and of 0.
+#[test]
+fn four_points_of_a_line(rt: HostRuntime) -> Result<(), Fail> {
+    let alloc = rt.alloc();
+    let xs = points(alloc, 4)?;
+    let rows: [([u64; 4], Option<u64>); 4] = [
+        ([5, 7, 9, 100], Some(2003)),
+        ([100, 7, 9, 11], Some(2003)),
+        ([100, 7, 100, 11], None),
+        ([0, 0, 0, 0], Some(0)),
+    ];
+    for (numbers, wanted) in rows {
+        let ys = elements(alloc, &numbers)?;
+        assert_eq!(rt; decoded_at_1000(alloc, &xs, &ys, 2)?, wanted);
+    }
+    Ok(())
+}
+
+// Whether the first k points alone are enough.
+fn decodes_short(alloc: Global, xs: &[Fe], ys: &[Fe], k: usize) -> Result<bool, Fail>
+    requires places { (i : ℕ) → i < length xs.now → slice_index xs.now i ≡ i + 1 }
+    requires pairs { length xs.now ≡ length ys.now }
+{
+    if k == 0 || xs.len() < k || xs.len() > 4096 {
+        return Err("a threshold".into());
+    }
+    let mut scratch = Scratch::new(alloc, xs.len())?;
+    let mut out = Poly::with_room(alloc, k)?;
+    Ok(decode_short(&mut scratch, xs, ys, k, &mut out))
+}
+
+// A wrong value behind the first two points, and one among them.
+#[test]
+fn the_first_points_alone(rt: HostRuntime) -> Result<(), Fail> {
+    let alloc = rt.alloc();
+    let xs = points(alloc, 4)?;
+    for (numbers, wanted) in [([5, 7, 9, 100], true), ([100, 7, 9, 11], false)] {
+        let ys = elements(alloc, &numbers)?;
+        assert_eq!(rt; decodes_short(alloc, &xs, &ys, 2)?, wanted);
+    }
+    Ok(())
 }
 
 // 60 of 81 points on a constant are one too few for k = 40.

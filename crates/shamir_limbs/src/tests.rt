@@ -1,5 +1,4 @@
-ghost use Rattle.std.specs.Prelude.{◌≡◌, ◌<◌};
-ghost use Rattle.field61.specs.declared.TheConstants.{MODULUS};
+ghost use Rattle.shamir_limbs.specs.KeyLine.{xs_of, AreDistinct};
 
 use super::*;
 use field61::Fe;
@@ -69,15 +68,35 @@ fn the_share_of_three_polynomials(rt: HostRuntime) -> Result<(), NoMemory> {
     Ok(())
 }
 
-fn point(x: u64, y: [u64; 3]) -> Point
-    requires { x < MODULUS }
-    ensures { result.x ≡ x }
+// The points 1 to 4 with these shares.
+fn four_points(shares: [[u64; 3]; 4]) -> [Point; 4]
+    ensures { AreDistinct (xs_of result) }
 {
-    Point {
-        x: Fe::new(x).unwrap_or(Fe::ZERO),
-        y: y.map(element),
-    }
+    let [first, second, third, fourth] = shares.map(|share| share.map(element));
+    [
+        Point {
+            x: Fe::ONE,
+            y: first,
+        },
+        Point {
+            x: Fe::new(2).unwrap_or(Fe::ZERO),
+            y: second,
+        },
+        Point {
+            x: Fe::new(3).unwrap_or(Fe::ZERO),
+            y: third,
+        },
+        Point {
+            x: Fe::new(4).unwrap_or(Fe::ZERO),
+            y: fourth,
+        },
+    ]
 }
+
+// The limbs of this key are 3, 1 and 5.
+const KEY: Key = Key {
+    bytes: *b"\x00\x00\x00\x00\x00\x03\x00\x00\x00\x00\x01\x00\x00\x00\x00\x05",
+};
 
 // Each row has the y of the second limb. The first limb is on 2x + 3 but at x = 1, and the third is
 // 5. The second limb of the last row has a bit too many.
@@ -85,85 +104,47 @@ fn point(x: u64, y: [u64; 3]) -> Point
 fn the_key_of_four_points(rt: HostRuntime) -> Result<(), NoMemory> {
     let mut work = KeyWork::new(rt.alloc(), 4)?;
     assert_eq!(rt; work.room(), 4);
-    let key = Key {
-        bytes: *b"\x00\x00\x00\x00\x00\x03\x00\x00\x00\x00\x01\x00\x00\x00\x00\x05",
-    };
     let cases: [([u64; 4], Option<Recovered>); 3] = [
-        ([2, 3, 4, 5], Some(Recovered { key, agree: 3 })),
+        ([2, 3, 4, 5], Some(Recovered { key: KEY, agree: 3 })),
         ([2, 9, 4, 5], None),
         ([1 << 40, 1 << 40, 1 << 40, 1 << 40], None),
     ];
-    for (second, wanted) in cases {
-        let points = [
-            point(1, [6, second[0], 5]),
-            point(2, [7, second[1], 5]),
-            point(3, [9, second[2], 5]),
-            point(4, [11, second[3], 5]),
-        ];
+    for ([a, b, c, d], wanted) in cases {
+        let points = four_points([[6, a, 5], [7, b, 5], [9, c, 5], [11, d, 5]]);
         assert_eq!(rt; recover(&mut work, &points, 2), wanted);
     }
     Ok(())
 }
 
-// The first k points decide alone: a wrong one among them is too many, and behind them it isn't.
+// The first two points decide alone: a wrong share among them is too many, and behind them it isn't.
 #[test]
 fn the_key_of_the_first_points(rt: HostRuntime) -> Result<(), NoMemory> {
     let mut work = KeyWork::new(rt.alloc(), 4)?;
-    let key = Key {
-        bytes: *b"\x00\x00\x00\x00\x00\x03\x00\x00\x00\x00\x01\x00\x00\x00\x00\x05",
-    };
-    let front = [
-        point(1, [6, 2, 5]),
-        point(2, [7, 3, 5]),
-        point(3, [9, 4, 5]),
-        point(4, [11, 5, 5]),
+    let cases = [
+        ([[6, 2, 5], [7, 3, 5], [9, 4, 5], [11, 5, 5]], None),
+        (
+            [[5, 2, 5], [7, 3, 5], [9, 4, 5], [12, 5, 5]],
+            Some(Recovered { key: KEY, agree: 3 }),
+        ),
+        ([[5, 2, 5], [7, 9, 5], [9, 4, 5], [11, 5, 5]], None),
     ];
-    let back = [
-        point(2, [7, 3, 5]),
-        point(3, [9, 4, 5]),
-        point(4, [11, 5, 5]),
-        point(1, [6, 2, 5]),
-    ];
-    let apart = [
-        point(1, [6, 2, 5]),
-        point(2, [7, 9, 5]),
-        point(3, [9, 4, 5]),
-        point(4, [11, 5, 5]),
-    ];
-    assert_eq!(rt; recover_short(&mut work, &front, 2), None);
-    assert_eq!(rt;
-        recover_short(&mut work, &back, 2),
-        Some(Recovered { key, agree: 3 })
-    );
-    assert_eq!(rt; recover_short(&mut work, &apart, 2), None);
+    for (shares, wanted) in cases {
+        assert_eq!(rt; recover_short(&mut work, &four_points(shares), 2), wanted);
+    }
     Ok(())
 }
 
 // Where a key is recovered its polynomials are handed back: here 2x + 3, x + 1 and 5.
 #[test]
 fn the_polynomials_of_a_key(rt: HostRuntime) -> Result<(), NoMemory> {
-    let points = [
-        point(1, [6, 2, 5]),
-        point(2, [7, 3, 5]),
-        point(3, [9, 4, 5]),
-        point(4, [11, 5, 5]),
-    ];
+    let points = four_points([[6, 2, 5], [7, 3, 5], [9, 4, 5], [11, 5, 5]]);
     let work = KeyWork::new(rt.alloc(), 4)?;
-    let Some(line) = recover_line(work, &points, 2) else {
-        assert!(rt; false, "there is a key");
-        return Ok(());
-    };
-    let KeyLine {
-        found,
-        first,
-        second,
-        third,
-    } = line;
-    let lowest = [first, second, third].map(|f| [
+    let line = recover_line(work, &points, 2).expect(&rt, "there is a key");
+    let lowest = [line.first, line.second, line.third].map(|f| [
         f.coefficient(0).value(),
         f.coefficient(1).value(),
     ]);
     assert_eq!(rt; lowest, [[3, 2], [1, 1], [5, 0]]);
-    assert_eq!(rt; found.agree, 3);
+    assert_eq!(rt; line.found.agree, 3);
     Ok(())
 }

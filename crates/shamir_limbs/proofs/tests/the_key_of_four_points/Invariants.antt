@@ -1,5 +1,5 @@
 use Rattle.std.proofs.Common.{◌≡◌}
 use Rattle.shamir_limbs.proofs.tests.the_key_of_four_points.Given as goal
 
-abbrev pub invariant-loop-second : goal.invariant-loop-second
-invariant-loop-second g l = l.work ≡ 4
+abbrev pub invariant-loop-a : goal.invariant-loop-a
+invariant-loop-a g l = l.work ≡ 4
