@@ -28,6 +28,3 @@ pub use frame_bytes::FrameBytes;
 pub use from_bytes::read_book;
 pub use from_source::next_book;
 pub use limits::{BOOK_MAGIC, BOOK_VERSION, ENTRY_HEAD_BYTES, HEADER_BYTES};
-
-#[cfg(test)]
-mod tests;

@@ -16,6 +16,3 @@ pub use fault::{MergeError, MergeFault};
 pub use limits::{MAX_BOOKS, MAX_BOOKS_BYTES};
 pub use merging::read_sum;
 pub use records::{BookRecords, records_of};
-
-#[cfg(test)]
-mod tests;

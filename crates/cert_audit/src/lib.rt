@@ -26,6 +26,3 @@ pub use list::CertList;
 pub use read::read_cert;
 pub use spell::cert_bytes;
 pub use verdict::Verdict;
-
-#[cfg(test)]
-mod tests;

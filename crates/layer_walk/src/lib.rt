@@ -42,6 +42,3 @@ pub use revealed::{LevelCount, LevelCounts, OpenedGroup, OpenedGroups, Revealed}
 pub use revealing::reveal;
 pub use tag_groups::Rows;
 pub use walk::Walk;
-
-#[cfg(test)]
-mod tests;

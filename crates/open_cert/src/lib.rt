@@ -11,6 +11,3 @@ mod opened;
 mod ordered;
 
 pub use certs::{Certs, certs_of};
-
-#[cfg(test)]
-mod tests;

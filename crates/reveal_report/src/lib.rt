@@ -18,6 +18,3 @@ pub use opened::open_lines;
 pub use paths::push_step;
 pub use summary::summary_of;
 pub use text::text_of;
-
-#[cfg(test)]
-mod tests;

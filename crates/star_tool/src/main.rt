@@ -100,8 +100,4 @@ mod tests_faults;
 #[cfg(test)]
 mod tests_levels;
 #[cfg(test)]
-mod tests_walk;
-#[cfg(test)]
-mod trial_books;
-#[cfg(test)]
 mod trial_streams;

@@ -3,16 +3,9 @@ ghost use Rattle.std.specs.Prelude.{◌≤◌, length, IfOk};
 ghost use Rattle.star_io.specs.declared.record.TheConstants.{MAX_RECORDS};
 
 use crate::run;
-use adss_commit::{Context, body_key, derive, seal_key};
-use chacha_stream::xor_stream;
 use command_words::Words;
-use field61::Fe;
-use hmac_seal::hmac;
 use recovery_pool::{Gate, NoGate};
-use report_frame::{
-    CHECK_BYTES, MAX_FRAME_TWO, Report, Value, Version, decode_view, encode, encode_sealed_part,
-};
-use star_io::{Bytes, MemorySink, MemorySource, NoMemory, Record, read_records};
+use star_io::{MemorySink, MemorySource, NoMemory, Record, read_records};
 use std::alloc::{AllocError, Global};
 use std::test::Fail;
 use std::thread::Threads;
@@ -21,6 +14,11 @@ use std::thread::Threads;
 const ROOM: usize = 65_536;
 
 const ZEROS: &str = "0000000000000000000000000000000000000000000000000000000000000000";
+
+/// The record of the report of `red` under threshold 2, in epoch 1, from client 0 with a seed of
+/// zeros, as an implementation in Python with hashlib and the package cryptography makes it.
+pub(crate) const RED: &[u8] =
+    b"\x00\x00\x00\x8d\x53\x54\x01\x00\x00\x00\x00\x01\x00\x02\x06\xb8\xe0\xad\xa0\xf1\x3d\x91\x0b\x79\xc5\x9d\x12\x73\x28\x79\x08\x81\xd8\xd7\xcf\x3f\xcb\x23\x03\x56\xf5\xca\xe5\xcc\xc5\x8f\xf6\x7d\x67\x87\x17\xbd\xf3\xb1\xda\x3e\x31\x81\x1c\xf2\xae\x3b\x44\x81\x6b\xc0\x21\x97\x30\x80\x80\x58\x60\xf2\xca\x6d\x34\x5b\xa6\xb0\x48\x39\xdd\xa5\x68\x52\xe7\x95\x5c\x27\xb0\x84\x70\x4b\x03\xf8\xd0\x5b\x40\x5d\x6a\xe5\x53\x86\xbd\x28\xbd\xd2\x19\xb8\x00\x01\x0d\x30\x52\x52\x36\x5b\x25\xa5\x7e\xdd\xc6\x95\xd8\x91\x1b\x06\xed\x8d\x86\x70\xd5\x55\x34\x75\xfe\x2e\x73\xcb\x25\x78\xd6\x40\xc0";
 
 /// A source of these bytes that never fails.
 pub(crate) fn source(alloc: Global, bytes: &[u8]) -> Result<MemorySource, Fail> {
@@ -98,134 +96,4 @@ pub(crate) fn made<R: Threads + Sync>(
         Ok(records) => Ok(records),
         Err(_) => Err(Fail::from(NoMemory)),
     }
-}
-
-/// The bytes of record i: none, where it isn't whole.
-pub(crate) fn frame(records: &[Record], i: usize) -> &[u8] {
-    match records.get(i) {
-        Some(Record::Whole(bytes)) => bytes.as_slice(),
-        _ => &[],
-    }
-}
-
-/// Puts a record last.
-pub(crate) fn push_record(stream: &mut Vec<u8>, frame: &[u8]) -> Result<(), Fail> {
-    let Ok(said) = u32::try_from(frame.len()) else {
-        return Err(Fail::from(NoMemory));
-    };
-    stream.extend_from_slice(&said.to_be_bytes())?;
-    stream.extend_from_slice(frame)?;
-    Ok(())
-}
-
-/// The stream of records of these bytes.
-pub(crate) fn stream_of(alloc: Global, frames: &[&[u8]]) -> Result<Vec<u8>, Fail> {
-    let mut stream = Vec::new(alloc);
-    for frame in frames {
-        push_record(&mut stream, frame)?;
-    }
-    Ok(stream)
-}
-
-/// The stream of records of the frames of these numbers, in this order.
-pub(crate) fn stream_by(
-    alloc: Global,
-    frames: &[Vec<u8>],
-    order: &[usize],
-) -> Result<Vec<u8>, Fail> {
-    let mut stream = Vec::new(alloc);
-    for i in order {
-        if let Some(frame) = frames.get(*i) {
-            push_record(&mut stream, frame)?;
-        }
-    }
-    Ok(stream)
-}
-
-/// A context of level 0.
-pub(crate) fn first_context(
-    version: Version,
-    epoch: u32,
-    k: u16,
-    value: &[u8],
-) -> Result<Context, Fail> {
-    match Value::of(value) {
-        Some(value) => Ok(Context {
-            version,
-            parent: [0; CHECK_BYTES],
-            epoch,
-            level: 0,
-            k,
-            value,
-        }),
-        None => Err(Fail::from(NoMemory)),
-    }
-}
-
-/// The report of a frame.
-pub(crate) fn report_of(alloc: Global, frame: &[u8]) -> Result<Report, Fail> {
-    match decode_view(frame) {
-        Ok(view) => Ok(Report {
-            level: view.level(),
-            epoch: view.epoch(),
-            head: view.head(),
-            x: view.x(),
-            y: view.y(),
-            nonce: view.nonce(),
-            body: Bytes::of(alloc, view.body())?,
-            seal: view.seal(),
-        }),
-        Err(_) => Err(Fail::from(NoMemory)),
-    }
-}
-
-/// The frame of a report, with the seal that it has.
-pub(crate) fn frame_of(alloc: Global, report: &Report) -> Result<Vec<u8>, Fail> {
-    if !report.is_good() {
-        return Err(Fail::from(NoMemory));
-    }
-    Ok(encode(alloc, report)?)
-}
-
-/// The frame with the first number of its share raised by 1, and all else kept.
-pub(crate) fn raised(alloc: Global, frame: &[u8]) -> Result<Vec<u8>, Fail> {
-    let mut report = report_of(alloc, frame)?;
-    report.y[0] = report.y[0].add(Fe::ONE);
-    frame_of(alloc, &report)
-}
-
-/// The plain body of a report of this context, or the encrypted one of a plain one.
-pub(crate) fn body_under(
-    alloc: Global,
-    report: &Report,
-    context: &Context,
-    body: &[u8],
-) -> Result<Vec<u8>, Fail> {
-    if body.len() > MAX_FRAME_TWO {
-        return Err(Fail::from(NoMemory));
-    }
-    let mut bytes = Vec::from_slice(alloc, body)?;
-    let key = body_key(context.version, &derive(context).key);
-    xor_stream(&key, &report.nonce, 0, &mut bytes);
-    Ok(bytes)
-}
-
-/// The frame of a report of this context with another plain body, and sealed over that.
-pub(crate) fn resealed(
-    alloc: Global,
-    frame: &[u8],
-    context: &Context,
-    plain: &[u8],
-) -> Result<Vec<u8>, Fail> {
-    let mut report = report_of(alloc, frame)?;
-    let body = body_under(alloc, &report, context, plain)?;
-    report.body = Bytes::of(alloc, &body)?;
-    if !report.is_good() {
-        return Err(Fail::from(NoMemory));
-    }
-    let mut bytes = encode_sealed_part(alloc, &report)?;
-    let key = seal_key(context.version, &derive(context).key);
-    let seal = hmac(&key, &bytes);
-    bytes.extend_from_slice(&seal)?;
-    Ok(bytes)
 }

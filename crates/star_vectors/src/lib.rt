@@ -7,6 +7,3 @@ mod outcome;
 mod vectors;
 
 pub use outcome::{Passed, SelfTestError, self_test};
-
-#[cfg(test)]
-mod tests;

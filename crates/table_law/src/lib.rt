@@ -19,6 +19,3 @@ mod sorted;
 
 pub use clear::is_clear;
 pub use expecting::expected;
-
-#[cfg(test)]
-mod tests;

@@ -17,6 +17,3 @@ pub use groups::group_rows;
 pub use listed::Listed;
 pub use points::{Points, points_left};
 pub use row::{BadRow, HeadedRow, Row, Rows};
-
-#[cfg(test)]
-mod tests;

@@ -28,6 +28,3 @@ pub(crate) fn book_output<S: Source>(
     let bytes = book.to_bytes()?;
     Ok(bytes)
 }
-
-#[cfg(test)]
-mod tests;

@@ -45,6 +45,3 @@ fn certs_bytes(alloc: Global, certs: &[Cert]) -> Result<Vec<u8>, NoMemory>
     }
     Ok(bytes)
 }
-
-#[cfg(test)]
-mod tests;

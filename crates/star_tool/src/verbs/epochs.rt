@@ -52,6 +52,3 @@ fn walk_of(alloc: Global, records: Vec<Record>) -> Result<EpochWalk, NoMemory>
     }
     Ok(walk)
 }
-
-#[cfg(test)]
-mod tests;

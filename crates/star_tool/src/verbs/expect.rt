@@ -43,6 +43,3 @@ pub(crate) fn expect_output<S: Source>(
     let text = expect_text(alloc, prefixes.as_slice(), clear)?;
     Ok(text)
 }
-
-#[cfg(test)]
-mod tests;

@@ -43,6 +43,3 @@ pub(crate) fn gen_output<R: Threads + Sync, G: Gate>(
     let text = summary_of(alloc, &revealed)?;
     Ok(text)
 }
-
-#[cfg(test)]
-mod tests;

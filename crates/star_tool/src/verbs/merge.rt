@@ -28,6 +28,3 @@ pub(crate) fn merge_output<S: Source>(
     let bytes = sum.to_bytes()?;
     Ok(bytes)
 }
-
-#[cfg(test)]
-mod tests;

@@ -40,6 +40,3 @@ pub(crate) fn open_book_output<R: Threads + Sync, S: Source, G: Gate>(
     let text = text_of(alloc, &revealed)?;
     Ok(text)
 }
-
-#[cfg(test)]
-mod tests;

@@ -40,8 +40,4 @@ pub(crate) fn reveal_output<R: Threads + Sync, S: Source, G: Gate>(
 }
 
 #[cfg(test)]
-mod tests;
-#[cfg(test)]
 mod tests_cities;
-#[cfg(test)]
-mod tests_fronts;
