@@ -133,6 +133,8 @@ class Cases:
 
 
 def check_cases(cases):
+    """Frames of either version, faulty ones, and streams that are cut."""
+
     def told(name, data, output):
         cases.tells("check: " + name, ["check"], data, output)
 
@@ -154,6 +156,7 @@ def check_cases(cases):
 
 
 def make_cases(cases):
+    """Reports of both versions, and tables that are bad."""
     words = ["make", "--epoch", "1", "--thresholds"]
     cases.tells("make: red", words + ["2"] + SEED, b"red\n", RED)
     for table, row, column in ((b"a,b\nc\n", 1, 1), (b"a,", 0, 1), (b"a,b,c", 0, 2)):
@@ -165,12 +168,13 @@ def make_cases(cases):
         cases.tells(f"make: {table}", words, table, b"", 7, f"bad table: row 0 column {column}")
 
 
-# The lines of a group that opens, and of one that doesn't.
 def opened(points, agree, members):
+    """The lines of one group of `red` that opens."""
     return f"open red~2 points={points} agree={agree} members={members}\nlevel 0 opened=1 few=0 noline=0 badvalue=0\n"
 
 
 def shut(few, no_line, bad_value):
+    """The line of a level with so many groups that stay shut."""
     return f"level 0 opened=0 few={few} noline={no_line} badvalue={bad_value}\n"
 
 
@@ -306,6 +310,7 @@ def twice_case(cases):
 
 
 def epoch_cases(cases):
+    """The reports of two epochs in turn, and records of no epoch."""
     data = stream(red(0), red(0, epoch=2), red(1), red(1, epoch=2))
     section = "epoch {}\n" + opened(2, 2, 2) + "records=2 rows=2 refused=0\n"
     told = section.format(1) + section.format(2) + "records=4 epochs=2 refused=0\n"
@@ -319,12 +324,14 @@ def epoch_cases(cases):
 
 
 def expect_case(cases):
+    """The table of the cities."""
     table = "".join(row + "\n" for row in CITIES[:60]).encode()
     lines = cities_told(22, 24, 1, 0).split("level")[0]
     cases.tells("expect: cities", ["expect", "--epoch", "7", "--thresholds", "20,10"] + SEED, table, lines + "prefixes=5 clear=yes\n")
 
 
 def book_cases(cases):
+    """A book, its sums, what it opens to, and books that are bad."""
     first, second = sorted((red(0), red(1)))
 
     def book(refused, *entries):
@@ -351,6 +358,7 @@ def book_cases(cases):
 
 
 def certificate_cases(cases):
+    """A certificate, each verdict, and each fault at its place."""
     certificate = REDS_CERTIFIED
     cases.tells("certify: red", ["certify", "--epoch", "1"], stream(red(0), red(1)), certificate)
     cases.tells("certify: another epoch", ["certify", "--epoch", "2"], stream(red(0), red(1)), b"")
@@ -382,6 +390,8 @@ def certificate_cases(cases):
 
 
 def trial_cases(cases):
+    """Streams for trials. Two other implementations agree on their digests."""
+
     def told(reports, level_0, level_1, text):
         levels = "".join(
             f"level {i} opened={opened} few={few} noline=0 badvalue=0\n" for i, (opened, few) in enumerate((level_0, level_1)) if opened + few
