@@ -16,6 +16,10 @@ if [ $# -lt 4 ]; then
     sed -n 's/^# usage: /usage: /p' "$0" >&2
     exit 2
 fi
+if [ -n "${MACHINES:-}" ] && { [ "${RUNNER:-}" = xargs ] || ! command -v parallel >/dev/null; }; then
+    echo "MACHINES needs GNU parallel" >&2
+    exit 2
+fi
 program=$(realpath "$1")
 epoch=$2
 mkdir -p "$3" || exit 3
