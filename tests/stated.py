@@ -1,6 +1,6 @@
 #!/usr/bin/env python3
 """Runs a program on inputs that are put together here byte for byte, and compares what it tells with what is stated here: its exit status, each byte
-of its output, and its line on standard error.
+of its output, and its line on standard error. Each run has to end within a minute.
 
 The reports are made by the client in plain Python; the lines follow from docs/FORMATS.md.
 
@@ -16,6 +16,7 @@ from client import contexts_of, report_of, sealed  # noqa: E402
 from shared import P, crypt_body, keys_of, read_frame, write_frame, write_record  # noqa: E402
 
 ZEROS = bytes(32)
+MOST_SECONDS = 60
 SEED = ["--seed", ZEROS.hex()]
 SMALLEST = b"ST\x01" + bytes(4) + b"\x01\x00\x02" + bytes(7) + b"\x01" + bytes(72) + b"\x01" + bytes(14) + b"\x01" + bytes(33)
 FIRST = "0 good level=0 epoch=1 k=2 box=1 body=1\n"
@@ -123,7 +124,12 @@ class Cases:
     def tells(self, name, words, data, output, status=0, error=""):
         """Compares a run on these words and this input with what it should tell."""
         output = output.encode() if isinstance(output, str) else output
-        run = subprocess.run(self.command + words, input=data, capture_output=True, check=False)
+        try:
+            run = subprocess.run(self.command + words, input=data, capture_output=True, check=False, timeout=MOST_SECONDS)
+        except subprocess.TimeoutExpired:
+            self.failed += 1
+            print(f"{name}: no end within {MOST_SECONDS} seconds")
+            return
         got = (run.returncode, run.stdout, run.stderr.decode("utf-8", "replace"))
         if got == (status, output, error and error + "\n"):
             self.passed += 1
@@ -212,7 +218,7 @@ def made_up_cases(cases):
 
 
 def many_case(cases):
-    """A group for each of 131,072 records, which takes no long time."""
+    """A group for each of 131,072 records, which has to end in time as every run has."""
     data = stream(*(SMALLEST[:42] + number.to_bytes(4, "big") + SMALLEST[46:] for number in range(131_072)))
     told = shut(131_072, 0, 0) + "records=131072 rows=131072 refused=0\n"
     cases.tells("reveal: many groups", ["reveal", "--epoch", "1"], data, told)

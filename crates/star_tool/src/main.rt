@@ -96,6 +96,8 @@ fn words_in(rt: &HostRuntime) -> Result<Words, Status> {
 #[cfg(test)]
 mod tests;
 #[cfg(test)]
+mod tests_books;
+#[cfg(test)]
 mod tests_faults;
 #[cfg(test)]
 mod tests_levels;
