@@ -28,7 +28,7 @@ abbrev pub of_group : Row → Report → Bool
 of_group row r = same_parent row.parent r.parent && same_head (head_of row.frame) (head_of r.frame)
 
 -- the row of a report, with the number 0
-abbrev row_with : Report → Row
+abbrev pub row_with : Report → Row
 row_with r = record { index = 0; parent = r.parent; frame = r.frame }
 
 any_some : {X : Type 0} (p : X → Bool) (zs : List X) → list_any p zs ≡ true → (z : X) × In z zs × (p z ≡ true)

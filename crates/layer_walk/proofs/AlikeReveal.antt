@@ -146,12 +146,15 @@ first_reports : (e : ℕ) (records : List Record) → reports (outer_rows e reco
 unfolding outer_rows
 first_reports e records = first_reports_from e 0 records
 
--- records with the same frames of level 0, each equally often
-pub tell_alike : (e : ℕ) (rs qs : List Record) → EquallyOften (first_frames e rs) (first_frames e qs) → TellAlike (reveal_of e rs) (reveal_of e qs)
-tell_alike e rs qs often =
-    told_alike_rows e rs qs (λ p.
+-- the rows of level 0 stand equally often where their frames do
+pub outer_rows-alike : (e : ℕ) (rs qs : List Record) → EquallyOften (first_frames e rs) (first_frames e qs) → EquallyOften (reports (outer_rows e rs)) (reports (outer_rows e qs))
+outer_rows-alike e rs qs often p =
     ap (λ l. length (filter p l)) (first_reports e rs)
     ∙ length-filter-map p first_report (first_frames e rs)
     ∙ often (λ r. p (first_report r))
     ∙ sym (length-filter-map p first_report (first_frames e qs))
-    ∙ ap (λ l. length (filter p l)) (sym (first_reports e qs)))
+    ∙ ap (λ l. length (filter p l)) (sym (first_reports e qs))
+
+-- records with the same frames of level 0, each equally often
+pub tell_alike : (e : ℕ) (rs qs : List Record) → EquallyOften (first_frames e rs) (first_frames e qs) → TellAlike (reveal_of e rs) (reveal_of e qs)
+tell_alike e rs qs often = told_alike_rows e rs qs (outer_rows-alike e rs qs often)

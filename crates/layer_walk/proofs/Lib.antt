@@ -22,6 +22,7 @@ pub mod Counted
 pub mod PointFacts
 pub mod Alike
 pub mod AlikeReveal
+pub mod AlikeOrders
 pub mod MadeLists
 pub mod Parts
 pub mod Numbers

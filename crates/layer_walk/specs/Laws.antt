@@ -15,6 +15,7 @@ use Rattle.adss_commit.specs.declared.context.Context.{Context}
 use Rattle.adss_commit.specs.Derivation.{polynomial, context_head}
 use Rattle.layer_walk.specs.declared.auxiliary.Aux.{Aux}
 use Rattle.layer_walk.specs.declared.refusal.Refusal.{Refusal}
+use Rattle.layer_walk.specs.declared.refusal.Stage.{Stage}
 use Rattle.layer_walk.specs.declared.refusal.Stage.TheVariants.{Outer}
 use Rattle.layer_walk.specs.declared.refusal.Why.{Why}
 use Rattle.layer_walk.specs.declared.level.Parent.{Parent}
@@ -119,6 +120,30 @@ pub record TellAlike (one other : Revealed) : Type 0 where
   pub rows : one.rows ≡ other.rows
   pub groups : one.groups ≡ other.groups
   pub levels : one.levels ≡ other.levels
+
+-- why a record is refused, without its number
+pub record Reason : Type 0 where
+  pub stage : Stage
+  pub why : Why
+
+abbrev pub reason_of : Refusal → Reason
+reason_of r = record { stage = r.stage; why = r.why }
+
+-- Both reveals refuse equally often for each stage and reason.
+abbrev pub RefuseAlike : Revealed → Revealed → Type 0
+RefuseAlike one other = EquallyOften (map reason_of one.refusals) (map reason_of other.refusals)
+
+-- extra bytes with their level, without the number of their record
+pub record Extra : Type 0 where
+  pub level : ℕ
+  pub bytes : List ℕ
+
+abbrev pub extra_of : Aux → Extra
+extra_of a = record { level = a.level; bytes = a.bytes }
+
+-- Both reveals tell the same extra bytes of the same levels, each equally often.
+abbrev pub ExtrasAlike : Revealed → Revealed → Type 0
+ExtrasAlike one other = EquallyOften (map extra_of one.aux) (map extra_of other.aux)
 
 abbrev pub frame_in : Result Fields Why → Option Fields
 frame_in (Ok frame) = Some frame

@@ -6,7 +6,7 @@ ghost use Rattle.report_frame.specs.Laws.{InRange};
 ghost use Rattle.adss_commit.specs.declared.context.Context.{Context};
 ghost use Rattle.layer_walk.specs.declared.outcome.Outcome.TheVariants.{Opened};
 ghost use Rattle.layer_walk.specs.Outcomes.{outcome_at};
-ghost use Rattle.layer_walk.specs.Laws.{outside_of, reports, first_frames, EquallyOften, honest, IsHonest, SameGroups, SameWalk, TellAlike, by_number, one_or_none, AreByteRecords, IsRowAt, OnlyLacks};
+ghost use Rattle.layer_walk.specs.Laws.{outside_of, reports, first_frames, EquallyOften, honest, IsHonest, SameGroups, SameWalk, TellAlike, ExtrasAlike, RefuseAlike, by_number, one_or_none, AreByteRecords, IsRowAt, OnlyLacks};
 ghost use Rattle.layer_walk.specs.Rows.{points_left, Row};
 ghost use Rattle.layer_walk.specs.Reveal.{reveal_of, by_aux_index, by_index, by_path, first_frame, level_count, outer_of, outer_refusals, outer_rows, row_of};
 ghost use Rattle.std.specs.List.{Contains, remove};
@@ -46,10 +46,19 @@ pub fn order_apart()
 {}
 
 /// Records with the same frames, each equally often, tell the same groups, levels and number of
-/// rows.
+/// rows, and the same extra bytes of each level, each equally often. The same records in another
+/// order have the same frames so, and refuse equally often for each stage and reason too.
 pub fn records_apart()
-    ensures { (e : ℕ) (rs qs : List Record) → EquallyOften (first_frames e rs) (first_frames e qs) →
+    ensures told { (e : ℕ) (rs qs : List Record) →
+        EquallyOften (first_frames e rs) (first_frames e qs) →
         TellAlike (reveal_of e rs) (reveal_of e qs) }
+    ensures extras { (e : ℕ) (rs qs : List Record) →
+        EquallyOften (first_frames e rs) (first_frames e qs) →
+        ExtrasAlike (reveal_of e rs) (reveal_of e qs) }
+    ensures frames { (e : ℕ) (rs qs : List Record) → EquallyOften rs qs →
+        EquallyOften (first_frames e rs) (first_frames e qs) }
+    ensures refusals { (e : ℕ) (rs qs : List Record) → EquallyOften rs qs →
+        RefuseAlike (reveal_of e rs) (reveal_of e qs) }
 {}
 
 /// Honest points with at most (n - k) / 2 wrong ones open to the honest value.
