@@ -29,7 +29,7 @@ counted_at some n = cond some (Some n) None
 found_bodies : (bodies : List (List ℕ)) (q : List ℕ) → found q (entries_of bodies) ≡ counted_at (has q bodies) (times bodies q)
 found_bodies bodies q = found_made (times bodies) (ascending by_bytes bodies) q ∙ ap (λ b. counted_at b (times bodies q)) (has_ascending q bodies)
 
-none_times : (bodies : List (List ℕ)) (q : List ℕ) → has q bodies ≡ false → times bodies q ≡ 0
+pub none_times : (bodies : List (List ℕ)) (q : List ℕ) → has q bodies ≡ false → times bodies q ≡ 0
 none_times [] q h = refl
 none_times (b ∷ bodies) q h =
     elim (is_at (by_bytes q) b) as (λ t. is_at (by_bytes q) b ≡ t → (t || has q bodies) ≡ false → length (cond (bytes_eq q b) (b ∷ filter (bytes_eq q) bodies) (filter (bytes_eq q) bodies)) ≡ 0) [

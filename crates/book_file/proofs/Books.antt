@@ -83,7 +83,8 @@ less_of Less h = refl
 less_of Equal h = absurd (let no : false ≡ true = h in cc)
 less_of Greater h = absurd (let no : false ≡ true = h in cc)
 
-below_all : (x y : List ℕ) (fs : List (List ℕ)) → by_bytes x y ≡ Less → AllByRecursion (λ f. by_bytes y f ≡ Less) fs → AllByRecursion (λ f. by_bytes x f ≡ Less) fs
+-- what is below another is below all above that
+pub below_all : (x y : List ℕ) (fs : List (List ℕ)) → by_bytes x y ≡ Less → AllByRecursion (λ f. by_bytes y f ≡ Less) fs → AllByRecursion (λ f. by_bytes x f ≡ Less) fs
 below_all x y [] h t = tt
 below_all x y (f ∷ fs) h t = (nat_list_cmp_total.trans x y f h t.0, below_all x y fs h t.1)
 

@@ -1,6 +1,6 @@
 //! Laws of books. Each function does nothing: its clause is a fact about the definitions that the
 //! other contracts cite.
-ghost use Rattle.std.specs.Prelude.{◌≡◌, ◌++◌, ℕ, List, Ok, Err, length, codes};
+ghost use Rattle.std.specs.Prelude.{◌≡◌, ◌<◌, ◌≤◌, ◌^◌, ◌++◌, ℕ, List, Ok, Err, length, codes};
 ghost use Rattle.book_file.specs.declared.book_kind.BookKind.{BookKind};
 ghost use Rattle.book_file.specs.declared.book_error.BadBook.{BadBook};
 ghost use Rattle.book_file.specs.declared.book_error.ReadBook.{ReadBook};
@@ -9,7 +9,7 @@ ghost use Rattle.book_file.specs.Reading.{read_of};
 ghost use Rattle.book_file.specs.Spelling.{Begins, spelling};
 ghost use Rattle.star_io.specs.Bytes.{AreBytes};
 ghost use Rattle.star_io.specs.declared.record.Record.{Record};
-ghost use Rattle.book_file.specs.Book.{Book};
+ghost use Rattle.book_file.specs.Book.{Book, IsBook, total_of};
 ghost use Rattle.book_file.specs.BookOf.{book_of, sum_of};
 ghost use Rattle.star_io.specs.declared.record.TheConstants.{MAX_RECORDS};
 ghost use Rattle.book_file.specs.declared.limits.TheConstants.{BOOK_MAGIC, BOOK_VERSION, HEADER_BYTES, ENTRY_HEAD_BYTES};
@@ -20,6 +20,15 @@ pub fn limits()
     ensures version { BOOK_VERSION ≡ 1 }
     ensures sizes { (HEADER_BYTES ≡ 21) × (ENTRY_HEAD_BYTES ≡ 6) }
     ensures records { MAX_RECORDS ≡ 131072 }
+{}
+
+/// The book of a list of records counts each of them. It is a book, where there are no more of them
+/// than a book may count.
+pub fn books_of_records()
+    ensures total { (e : ℕ) (records : List Record) →
+        total_of (book_of e records) ≡ length records }
+    ensures is_book { (e : ℕ) (records : List Record) → e < 2 ^ 32 →
+        length records ≤ MAX_RECORDS → IsBook (book_of e records) }
 {}
 
 /// The sum of two books is the book of all their records, and that in either order.
