@@ -210,7 +210,7 @@ behind_books e number bytes rest adds many =
     let w = walked adds.books e 0 number (empty_book e) bytes rest (omega (arith, many)) refl adds.begin adds.can_add in
     (few_merged e bytes adds.within ∙ w.0, w.1)
 
-sum_back : (e : ℕ) (bytes : List ℕ) (total : Book) → IsSumOf e bytes total → merged e bytes ≡ Ok total
+pub sum_back : (e : ℕ) (bytes : List ℕ) (total : Book) → IsSumOf e bytes total → merged e bytes ≡ Ok total
 sum_back e bytes total (all, is) =
     (behind_books e (length all.books) bytes [] all refl).0 ∙ ap (with_readings (length all.books) (Ok (with_books (empty_book e) all.books))) readings-nil ∙ ap (λ (b : Book). Ok b) (sym is)
 

@@ -1,3 +1,4 @@
 pub mod Records
 pub mod Merging
 pub mod Sums
+pub mod Machines

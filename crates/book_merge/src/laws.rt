@@ -1,13 +1,16 @@
 //! Laws of books. Each function does nothing: its clauses are facts about the definitions.
-ghost use Rattle.std.specs.Prelude.{◌≡◌, ◌↔◌, ℕ, List, Ok, Err};
+ghost use Rattle.std.specs.Prelude.{◌≡◌, ◌<◌, ◌≤◌, ◌^◌, ◌↔◌, ℕ, List, Ok, Err, length};
+ghost use Rattle.std.specs.List.Sorted.{IsPermutation};
 ghost use Rattle.star_io.specs.Bytes.{AreBytes};
 ghost use Rattle.star_io.specs.declared.record.Record.{Record};
+ghost use Rattle.star_io.specs.declared.record.TheConstants.{MAX_RECORDS};
 ghost use Rattle.layer_walk.specs.Reveal.{reveal_of};
-ghost use Rattle.layer_walk.specs.Laws.{TellAlike};
+ghost use Rattle.layer_walk.specs.Laws.{EquallyOften, TellAlike};
 ghost use Rattle.book_file.specs.Book.{Book};
 ghost use Rattle.book_file.specs.BookOf.{book_of};
 ghost use Rattle.book_file.specs.declared.book_kind.BookKind.{BookKind};
 ghost use Rattle.book_merge.specs.declared.fault.MergeFault.{MergeFault};
+ghost use Rattle.book_merge.specs.Machines.{FitOneBook, books_of_all, records_of_all};
 ghost use Rattle.book_merge.specs.Merging.{merged};
 ghost use Rattle.book_merge.specs.Sums.{IsSumOf, HasBadBook, HasOtherEpoch, HasTooMuch};
 ghost use Rattle.book_merge.specs.Records.{records_of};
@@ -32,6 +35,24 @@ pub fn merge_means()
         ↔ HasOtherEpoch e bytes number have }
     ensures too_many { (e : ℕ) (bytes : List ℕ) → AreBytes bytes →
         (merged e bytes ≡ Err MergeFault.TooMany) ↔ HasTooMuch e bytes }
+{}
+
+/// The same records have the same book, in whatever order they come.
+pub fn order_apart()
+    ensures { (e : ℕ) (xs ys : List Record) → EquallyOften xs ys → book_of e xs ≡ book_of e ys }
+{}
+
+/// The books of several machines, joined, have as their sum the book of all records of all
+/// machines (`sum`). Their books are few enough bytes wherever there are at most 1,024 machines
+/// (`fit`), and machines in another order have the same records as often (`turned`).
+pub fn machines_agree()
+    ensures sum { (e : ℕ) (machines : List (List Record)) → FitOneBook e machines →
+        merged e (books_of_all e machines) ≡ Ok (book_of e (records_of_all machines)) }
+    ensures fit { (e : ℕ) (machines : List (List Record)) → e < 2 ^ 32 →
+        length (records_of_all machines) ≤ MAX_RECORDS → length machines ≤ 1024 →
+        FitOneBook e machines }
+    ensures turned { (machines others : List (List Record)) → IsPermutation machines others →
+        EquallyOften (records_of_all machines) (records_of_all others) }
 {}
 
 /// The limits in plain numbers.

@@ -9,6 +9,6 @@ use Rattle.book_merge.proofs.records.records_of.Goals as goal
 pub returns : goal.returns
 unfolding records_of
 returns c =
-    let items = c.loop-frame.items.items in
+    let records = c.loop-frame.records in
     let none : c.loop-frame.frame-iterator ≡ [] = rest_all deref_pair _ _ _ c.in-None.is c.next.ensures.steps in
-    sym (append-nil items) ∙ ap (λ l. items ++ flat_map entry_records l) (sym none) ∙ c.loop-frame.invariant
+    sym (append-nil records) ∙ ap (λ l. records ++ flat_map entry_records l) (sym none) ∙ c.loop-frame.invariant
