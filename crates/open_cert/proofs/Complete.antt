@@ -7,7 +7,6 @@ use Rattle.field61.specs.Field.{AreElements}
 use Rattle.report_frame.specs.View.{head_of}
 use Rattle.shamir_limbs.specs.KeyLine.{xs_of, AreDistinct}
 use Rattle.star_io.specs.declared.record.Record.{Record}
-use Rattle.star_io.specs.declared.record.TheConstants.{MAX_RECORDS}
 use Rattle.star_lists.specs.Ascending.{in_order}
 use Rattle.star_lists.specs.Numbered.{joined_below}
 use Rattle.star_lists.proofs.Elements.{In, Contains-from_in, all_of, map-append}
@@ -26,6 +25,7 @@ use Rattle.layer_walk.proofs.HeldRows.{opened_to, mapped_is}
 use Rattle.layer_walk.proofs.Inside.{from_filter_map, from_in_order, in_either}
 use Rattle.layer_walk.proofs.MadeLists.{map-filter_map}
 use Rattle.cert_audit.specs.declared.cert.Cert.{Cert}
+use Rattle.cert_audit.specs.declared.limits.TheConstants.{MAX_POINTS}
 use Rattle.cert_audit.specs.Audit.{verdict_of}
 use Rattle.cert_audit.specs.Certificate.{IsCert}
 use Rattle.open_cert.specs.declared.certified.Certified.{Certified}
@@ -62,11 +62,11 @@ told_is e records =
 -- ---- each certificate is that of its group
 
 -- a group of a reveal, with its certificate
-record IsRevealed (e : ℕ) (rows : List Row) (c : Certified) : Type 0 where
+record IsRevealed (e n : ℕ) (rows : List Row) (c : Certified) : Type 0 where
   cert : IsCertOf e rows c.told c.cert
-  range : IsCert c.cert
+  range : n ≤ MAX_POINTS → IsCert c.cert
 
-module _ (e : ℕ) (records : List Record) (bytes : AreByteRecords records) (small : length records ≤ MAX_RECORDS) where
+module _ (e : ℕ) (records : List Record) (bytes : AreByteRecords records) where
   abbrev outer : List Row
   outer = outer_rows e records
 
@@ -75,7 +75,7 @@ module _ (e : ℕ) (records : List Record) (bytes : AreByteRecords records) (sma
     rows = rows_from e outer l
 
     elements : (row : Row) → AreElements (xs_of (points_left rows row))
-    elements row = left_elements e records bytes small l row
+    elements row = left_elements e records bytes l row
 
     distinct : (row : Row) → AreDistinct (xs_of (points_left rows row))
     distinct row = distinct_left (map (λ (r : Row). point_of r.frame) (members rows row))
@@ -93,7 +93,7 @@ module _ (e : ℕ) (records : List Record) (bytes : AreByteRecords records) (sma
         subst (λ o. SaysYes o (verdict_of (row_cert e l rows row))) (sym is.outcome)
         (open_yes (row_cert e l rows row) is (elements row) (distinct row))
 
-    of_row : (row : Row) (told : OpenedGroup) → In row (first_members rows) → opened_row e l rows row ≡ Some told → IsRevealed e outer (with_cert (row_cert e l rows row) told)
+    of_row : (row : Row) (told : OpenedGroup) → In row (first_members rows) → opened_row e l rows row ≡ Some told → IsRevealed e (length records) outer (with_cert (row_cert e l rows row) told)
     of_row row told i is =
         let certified = open_cert row told is in
         record {
@@ -107,18 +107,18 @@ module _ (e : ℕ) (records : List Record) (bytes : AreByteRecords records) (sma
             points = refl;
             verdict = says_yes row certified;
           };
-          range = cert_in_range e records bytes small l row (in_firsts same_group rows row i) (row_cert e l rows row) refl refl refl (open_length (row_cert e l rows row) certified);
+          range = λ few. cert_in_range e records bytes l few row (in_firsts same_group rows row i) (row_cert e l rows row) refl refl refl (open_length (row_cert e l rows row) certified);
         }
 
-    revealed_at : (c : Certified) → In c (certified_at e l rows) → IsRevealed e outer c
+    revealed_at : (c : Certified) → In c (certified_at e l rows) → IsRevealed e (length records) outer c
     unfolding certified_at
     revealed_at c i =
         let from = from_filter_map (certified_row e l rows) (first_members rows) c i in
         let row = from.0 in
         let told = mapped_is (with_cert (row_cert e l rows row)) (opened_row e l rows row) c from.2 in
-        subst (IsRevealed e outer) told.2 (of_row row told.0 from.1 told.1)
+        subst (IsRevealed e (length records) outer) told.2 (of_row row told.0 from.1 told.1)
 
-  revealed_below : (n : ℕ) (c : Certified) → In c (certified_told e outer n) → IsRevealed e outer c
+  revealed_below : (n : ℕ) (c : Certified) → In c (certified_told e outer n) → IsRevealed e (length records) outer c
   unfolding certified_told
   revealed_below zero c i = absurd i
   revealed_below (suc n) c i = elim (in_either c (certified_told e outer n) (certified_at e n (rows_from e outer n)) i) [
@@ -126,19 +126,19 @@ module _ (e : ℕ) (records : List Record) (bytes : AreByteRecords records) (sma
     | inr j ↦ revealed_at n c j
   ]
 
-  all_revealed : All (IsRevealed e outer) (certified_of e records)
+  all_revealed : All (IsRevealed e (length records) outer) (certified_of e records)
   unfolding certified_of
   all_revealed =
-      All-from_recursion (IsRevealed e outer) (certified_of e records)
-      (all_of (IsRevealed e outer) (certified_of e records) (λ c i. revealed_below level_count c (from_in_order by_told_path c (certified_told e outer level_count) i)))
+      All-from_recursion (IsRevealed e (length records) outer) (certified_of e records)
+      (all_of (IsRevealed e (length records) outer) (certified_of e records) (λ c i. revealed_below level_count c (from_in_order by_told_path c (certified_told e outer level_count) i)))
 
   -- one certificate for each group, in their order
   pub complete : AllZip (IsCertOf e outer) (reveal_of e records).groups (certs_list e records)
   complete =
       subst (λ groups. AllZip (IsCertOf e outer) groups (certs_list e records)) (told_is e records)
       (zip_mapped (IsCertOf e outer) (λ (c : Certified). c.told) (λ (c : Certified). c.cert) (certified_of e records)
-      (All-weaker (IsRevealed e outer) (λ c. IsCertOf e outer c.told c.cert) (λ c r. r.cert) (certified_of e records) all_revealed))
+      (All-weaker (IsRevealed e (length records) outer) (λ c. IsCertOf e outer c.told c.cert) (λ c r. r.cert) (certified_of e records) all_revealed))
 
   -- each in range
-  pub in_range : All IsCert (certs_list e records)
-  in_range = All-map IsCert (λ (c : Certified). c.cert) (certified_of e records) (All-weaker (IsRevealed e outer) (λ c. IsCert c.cert) (λ c r. r.range) (certified_of e records) all_revealed)
+  pub in_range : length records ≤ MAX_POINTS → All IsCert (certs_list e records)
+  in_range few = All-map IsCert (λ (c : Certified). c.cert) (certified_of e records) (All-weaker (IsRevealed e (length records) outer) (λ c. IsCert c.cert) (λ c r. r.range few) (certified_of e records) all_revealed)

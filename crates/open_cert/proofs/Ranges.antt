@@ -9,7 +9,6 @@ use Rattle.std.proofs.lemmas.List.{length-map}
 use Rattle.std.proofs.lemmas.List.Elements.{All-from_recursion}
 use Rattle.std.proofs.lemmas.Map.Keys.{IsStrictlyIncreasing-from_sorted}
 use Rattle.star_io.specs.declared.record.Record.{Record}
-use Rattle.star_io.specs.declared.record.TheConstants.{MAX_RECORDS}
 use Rattle.field61.specs.Field.{AreElements}
 use Rattle.field61.specs.declared.TheConstants.{MODULUS}
 use Rattle.report_frame.specs.Laws.{InRange}
@@ -79,7 +78,7 @@ ascending_xs points up f = IsStrictlyIncreasing-from_sorted (0 ∷ xs_of points)
 
 -- ---- the groups of a level of a stream
 
-module _ (e : ℕ) (records : List Record) (bytes : AreByteRecords records) (small : length records ≤ MAX_RECORDS) (l : ℕ) where
+module _ (e : ℕ) (records : List Record) (bytes : AreByteRecords records) (l : ℕ) where
   abbrev rows : List Row
   rows = rows_from e (outer_rows e records) l
 
@@ -98,8 +97,8 @@ module _ (e : ℕ) (records : List Record) (bytes : AreByteRecords records) (sma
       (points_hold (λ p. 1 ≤ p.x) rows row (λ r i. (framed r i).x_low))
 
   -- a certificate with the place, the head and the points left of a row's group is in range
-  pub cert_in_range : (row : Row) → In row rows → (cert : Cert) → cert.level ≡ l → cert.head ≡ head_of row.frame → cert.points ≡ points_left rows row → length cert.numbers ≡ 3 * cert.head.k → IsCert cert
-  cert_in_range row i cert level head points numbers =
+  pub cert_in_range : length records ≤ MAX_POINTS → (row : Row) → In row rows → (cert : Cert) → cert.level ≡ l → cert.head ≡ head_of row.frame → cert.points ≡ points_left rows row → length cert.numbers ≡ 3 * cert.head.k → IsCert cert
+  cert_in_range small row i cert level head points numbers =
       let range = framed row i in
       let at = each_framed e records bytes l row i in
       let low : cert.level ≤ max_level row.frame.version = subst (λ n. n ≤ max_level row.frame.version) (at.level ∙ sym level) range.level in

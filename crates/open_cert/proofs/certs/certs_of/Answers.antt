@@ -29,11 +29,11 @@ returns-clause-certs c =
 pub returns-clause-complete : goal.returns-clause-complete
 returns-clause-complete c =
     IfOk-weaker c.certs_alone.result (λ certs. certs ≡ certs_list c.args.epoch c.args.records.now) (λ certs. AllZip (IsCertOf c.args.epoch (outer_rows c.args.epoch c.args.records.now)) (reveal_of c.args.epoch c.args.records.now).groups certs)
-    (λ certs is. subst (AllZip (IsCertOf c.args.epoch (outer_rows c.args.epoch c.args.records.now)) (reveal_of c.args.epoch c.args.records.now).groups) (sym is) (complete c.args.epoch c.args.records.now c.know_records.ensures c.requires))
+    (λ certs is. subst (AllZip (IsCertOf c.args.epoch (outer_rows c.args.epoch c.args.records.now)) (reveal_of c.args.epoch c.args.records.now).groups) (sym is) (complete c.args.epoch c.args.records.now c.know_records.ensures))
     (returns-clause-certs c)
 
 pub returns-clause-range : goal.returns-clause-range
 returns-clause-range c =
     IfOk-weaker c.certs_alone.result (λ certs. certs ≡ certs_list c.args.epoch c.args.records.now) (All IsCert)
-    (λ certs is. subst (All IsCert) (sym is) (in_range c.args.epoch c.args.records.now c.know_records.ensures c.requires))
+    (λ certs is. subst (All IsCert) (sym is) (in_range c.args.epoch c.args.records.now c.know_records.ensures (omega (arith, c.requires))))
     (returns-clause-certs c)
