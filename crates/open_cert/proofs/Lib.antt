@@ -3,5 +3,5 @@ mod Verdicts
 mod Ranges
 mod Groups
 mod ByPath
-mod Complete
+pub mod Complete
 mod Steps

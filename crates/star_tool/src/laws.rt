@@ -1,8 +1,9 @@
 //! Laws of the commands: what a refusal of their input means, and what they tell. Each
 //! function does nothing: its clauses are facts about the definitions that the contract of `run`
 //! cites.
-ghost use Rattle.std.specs.Prelude.{◌≡◌, ◌↔◌, ℕ, List, Option, None, Some, Ok, Err, ◌<◌, ◌^◌, ◌++◌, [], length, All, true};
-ghost use Rattle.std.specs.List.{flat_map};
+ghost use Rattle.std.specs.Prelude.{◌≡◌, ◌↔◌, ℕ, List, Option, None, Some, Ok, Err, ◌<◌, ◌^◌, ◌++◌, [], length, map, All, true};
+ghost use Rattle.std.specs.List.{AllZip, flat_map};
+ghost use Rattle.std.specs.List.Sorted.{IsPermutation};
 ghost use Rattle.star_io.specs.Bytes.{AreBytes};
 ghost use Rattle.star_io.specs.RecordLists.{HasMoreThan, stream_records};
 ghost use Rattle.star_io.specs.declared.record.TheConstants.{MAX_RECORDS};
@@ -10,7 +11,8 @@ ghost use Rattle.report_frame.specs.declared.version.Version.{Version};
 ghost use Rattle.report_frame.specs.declared.version.Version.TheVariants.{One};
 ghost use Rattle.report_frame.specs.Thresholds.{AreThresholds};
 ghost use Rattle.nest_client.specs.Generator.{drawn_records};
-ghost use Rattle.layer_walk.specs.Reveal.{reveal_of};
+ghost use Rattle.layer_walk.specs.Laws.{EquallyOften, TellAlike};
+ghost use Rattle.layer_walk.specs.Reveal.{outer_rows, reveal_of};
 ghost use Rattle.reveal_report.specs.RevealText.{open_line, level_lines, aux_line, last_line, text_of, summary_of};
 ghost use Rattle.table_law.specs.Reveals.{IsClean};
 ghost use Rattle.epoch_walk.specs.Epochs.{epochs_told};
@@ -19,6 +21,7 @@ ghost use Rattle.star_vectors.specs.Vectors.{vectors};
 ghost use Rattle.book_file.specs.Book.{Book};
 ghost use Rattle.book_file.specs.BookOf.{book_of};
 ghost use Rattle.book_file.specs.Spelling.{spelling};
+ghost use Rattle.book_merge.specs.Machines.{FitOneBook, records_of_all};
 ghost use Rattle.book_merge.specs.Merging.{merged};
 ghost use Rattle.book_merge.specs.Records.{records_of};
 ghost use Rattle.book_merge.specs.declared.fault.MergeFault.{MergeFault};
@@ -30,7 +33,7 @@ ghost use Rattle.star_tool.specs.ExpectText.{expect_line};
 ghost use Rattle.star_tool.specs.Verbs.Expect.{SaysClear};
 ghost use Rattle.cert_audit.specs.Certificate.{cert_spelling};
 ghost use Rattle.cert_audit.specs.declared.kind.CertKind.{CertKind};
-ghost use Rattle.open_cert.specs.Certs.{certs_list};
+ghost use Rattle.open_cert.specs.Certs.{IsCertOf, certs_list};
 ghost use Rattle.star_tool.specs.Verbs.Audit.{HasBadCert, AreCerts};
 ghost use Rattle.star_tool.specs.EpochsText.{epochs_text_of};
 ghost use Rattle.star_tool.specs.Verbs.Make.{HasTooMuch, HasBadCell, IsTableText};
@@ -164,8 +167,49 @@ pub fn open_book_tells()
         output_of (OpenBook epoch workers) bytes seed ≡ text_of (reveal_of epoch (records_of sum)) }
 {}
 
+/// Several machines, each with a stream of its own, of together no more records than a book may
+/// count: `book` refuses none of the streams (`good`), and `merge` of what `book` writes for each,
+/// joined, writes the book of all of their records (`merged`). `openbook` of the same writes what
+/// the records of that book tell, which has the groups, levels and rows of what all of their
+/// records tell (`opened`). Both write the same however the records are spread over machines and in
+/// whatever order they come (`order`), as where the machines come in another order (`turned`).
+pub fn machines_agree()
+    ensures good { (epoch : ℕ) (streams : List (List ℕ)) → All AreBytes streams →
+        FitOneBook epoch (map stream_records streams) →
+        All (λ bytes. refusal_of (BookCommand epoch) bytes ≡ None) streams }
+    ensures merged { (epoch : ℕ) (streams : List (List ℕ)) (seed : List ℕ) →
+        FitOneBook epoch (map stream_records streams) →
+        let books = flat_map (λ bytes. output_of (BookCommand epoch) bytes seed) streams in
+        (refusal_of (Merge epoch) books ≡ None) × (output_of (Merge epoch) books seed
+        ≡ spelling (book_of epoch (records_of_all (map stream_records streams)))) }
+    ensures opened { (epoch workers : ℕ) (streams : List (List ℕ)) (seed : List ℕ) →
+        FitOneBook epoch (map stream_records streams) →
+        let books = flat_map (λ bytes. output_of (BookCommand epoch) bytes seed) streams in
+        let records = records_of_all (map stream_records streams) in
+        let told = reveal_of epoch (records_of (book_of epoch records)) in
+        (refusal_of (OpenBook epoch workers) books ≡ None)
+        × (output_of (OpenBook epoch workers) books seed ≡ text_of told)
+        × TellAlike told (reveal_of epoch records) }
+    ensures order { (epoch workers : ℕ) (streams others : List (List ℕ)) (seed : List ℕ) →
+        FitOneBook epoch (map stream_records streams) →
+        FitOneBook epoch (map stream_records others) →
+        EquallyOften (records_of_all (map stream_records streams))
+        (records_of_all (map stream_records others)) →
+        let books = flat_map (λ bytes. output_of (BookCommand epoch) bytes seed) streams in
+        let other = flat_map (λ bytes. output_of (BookCommand epoch) bytes seed) others in
+        (output_of (Merge epoch) books seed ≡ output_of (Merge epoch) other seed)
+        × (output_of (OpenBook epoch workers) books seed
+        ≡ output_of (OpenBook epoch workers) other seed) }
+    ensures turned { (epoch : ℕ) (streams others : List (List ℕ)) → IsPermutation streams others →
+        FitOneBook epoch (map stream_records streams) →
+        FitOneBook epoch (map stream_records others)
+        × EquallyOften (records_of_all (map stream_records streams))
+        (records_of_all (map stream_records others)) }
+{}
+
 /// `certify` refuses exactly the streams that `check` refuses. Its output is the certificates of
-/// what the records open for the epoch, one after the other.
+/// what the records open for the epoch, one after the other: one for each group that `reveal`
+/// opens, in the order of its groups, and an audit says Yes to each (`complete`).
 #[tactic(auto, using(crate::proofs::StreamLemmas::too_many_means, crate::proofs::StreamLemmas::too_many_only))]
 pub fn certify_tells()
     ensures too_many { (epoch : ℕ) (bytes : List ℕ) → AreBytes bytes →
@@ -175,6 +219,10 @@ pub fn certify_tells()
     ensures certs { (epoch : ℕ) (bytes seed : List ℕ) →
         output_of (Certify epoch) bytes seed
         ≡ flat_map cert_spelling (certs_list epoch (stream_records bytes)) }
+    ensures complete { (epoch : ℕ) (bytes : List ℕ) → AreBytes bytes →
+        let records = stream_records bytes in
+        AllZip (IsCertOf epoch (outer_rows epoch records)) (reveal_of epoch records).groups
+        (certs_list epoch records) }
 {}
 
 /// `audit` refuses exactly too many bytes, and else those that go on with something else behind
