@@ -16,11 +16,10 @@ use Rattle.chacha_stream.proofs.StreamLaws.{same_length, twice}
 use Rattle.field61.specs.declared.TheConstants.{MODULUS}
 use Rattle.field61.specs.Field.{field_sum, AreElements}
 use Rattle.field61.proofs.FieldLaws.{modulus_positive, zero_product, sum_zero}
-use Rattle.shamir_limbs.specs.KeyLine.{value, HasDegreeBelow, AreDistinct}
+use Rattle.shamir_limbs.specs.KeyLine.{value, HasDegreeBelow, AreDistinct, xs_of, agreement_of_all, values_at_zero, IsKeyLine}
 use Rattle.report_frame.specs.declared.version.Version.{Version}
 use Rattle.report_frame.specs.declared.head.Head.{Head}
 use Rattle.shamir_limbs.specs.Limbs.{limbs, key_bytes, IsKey, AreLimbs}
-use Rattle.shamir_limbs.specs.KeyLine.{xs_of, agreement_of_all, values_at_zero, IsKeyLine}
 use Rattle.shamir_limbs.specs.Search.{key_line_of}
 use Rattle.shamir_limbs.specs.declared.key.Key.{Key}
 use Rattle.shamir_limbs.specs.declared.recovery.Recovered.{Recovered}

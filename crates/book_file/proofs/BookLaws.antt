@@ -3,20 +3,14 @@ use Rattle.std.proofs.Common.{◌≡◌, ℕ, ◌+◌, Bool, true, false, cond, 
 use Rattle.std.specs.Str.{bytes_eq}
 use Rattle.std.specs.BTreeMap.{is_at}
 use Rattle.std.proofs.lemmas.Map.Text.{is_eq-slice_cmp}
+use Rattle.std.proofs.lemmas.List.{map-append}
+use Rattle.std.proofs.lemmas.List.Elements.{filter-append}
 use Rattle.star_io.specs.declared.record.Record.{Record}
 use Rattle.star_lists.specs.Ascending.{ascending}
-use Rattle.star_lists.proofs.Elements.{map-append}
 use Rattle.book_file.specs.Book.{Entry, Book, by_bytes}
 use Rattle.book_file.specs.BookOf.{is_taken, body_of, bodies_of, times, entry_of, book_of, entries_sum, sum_of}
 use Rattle.book_file.proofs.Entries.{found, has, found_made, has_ascending, has-append, rises_made}
 use Rattle.book_file.proofs.Sums.{added, is_sum, sum_turns, sum_groups}
-
-filter-append : {X : Type 0} (p : X → Bool) (xs ys : List X) → filter p (xs ++ ys) ≡ filter p xs ++ filter p ys
-filter-append p [] ys = refl
-filter-append p (x ∷ xs) ys = elim (p x) as (λ b. cond b (x ∷ filter p (xs ++ ys)) (filter p (xs ++ ys)) ≡ cond b (x ∷ filter p xs) (filter p xs) ++ filter p ys) [
-  | true ↦ ap (λ l. x ∷ l) (filter-append p xs ys)
-  | false ↦ filter-append p xs ys
-]
 
 -- the entries of bodies
 abbrev pub entries_of : List (List ℕ) → List Entry

@@ -17,13 +17,13 @@ use Rattle.std.proofs.lemmas.List.Sums.{sum_by_push, sum_by-cons}
 use Rattle.std.proofs.lemmas.List.Elements.{All-cons, All-nil, All-head, All-tail}
 use Rattle.std.proofs.lemmas.Map.Keys.{sorted_tail}
 use Rattle.star_io.specs.declared.record.TheConstants.{MAX_RECORDS}
-use Rattle.star_lists.proofs.Elements.{map-append}
 use Rattle.book_file.specs.Book.{Entry, IsBookOf, by_bytes, is_outer, is_outer_frame, count_in}
 use Rattle.star_io.specs.declared.record.Record.{Record}
 use Rattle.star_io.specs.declared.record.Record.TheVariants.{Whole, TooLong, CutLength, CutRecord}
 use Rattle.star_lists.specs.Ascending.{ascending}
 use Rattle.std.specs.Str.{bytes_eq}
 use Rattle.std.proofs.lemmas.Map.Text.{is_eq-slice_cmp}
+use Rattle.std.proofs.lemmas.List.{map-append}
 use Rattle.book_file.specs.BookOf.{is_taken, body_of, taken_body, bodies_of, times, entry_of, book_of, one_book, entries_sum}
 use Rattle.book_file.specs.Format.{is_above, last_of}
 use Rattle.book_file.proofs.Entries.{Rises, found, at_itself, none_later}

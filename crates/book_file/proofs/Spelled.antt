@@ -12,9 +12,8 @@ use Rattle.std.proofs.lemmas.Nat.{be_bytes_2, be_bytes_4, from_be_bytes-to_be_by
 use Rattle.std.proofs.lemmas.List.Elements.{All-head, All-tail}
 use Rattle.std.proofs.lemmas.List.Sums.{sum_by-append, sum_by-cons}
 use Rattle.star_io.specs.declared.record.TheConstants.{MAX_RECORDS}
-use Rattle.star_lists.proofs.Elements.{map-append}
 use Rattle.std.proofs.lemmas.Bool.{ltb-false, ltb-true, le-ltb}
-use Rattle.std.proofs.lemmas.List.{take-append-drop, length-take-le, append-nil}
+use Rattle.std.proofs.lemmas.List.{take-append-drop, length-take-le, append-nil, map-append}
 use Rattle.book_file.specs.declared.book_kind.BookKind.{BookKind}
 use Rattle.book_file.specs.declared.book_kind.BookKind.TheVariants.{Truncated, Magic, Version, Count, Frame, Order}
 use Rattle.book_file.specs.declared.limits.TheConstants.{BOOK_MAGIC, BOOK_VERSION}

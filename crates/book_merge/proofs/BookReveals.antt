@@ -1,33 +1,35 @@
 -- A book reveals what its records do.
-use Rattle.std.proofs.Common.{◌≡◌, ℕ, zero, suc, Bool, true, false, cond, not, ◌||◌, ◌&&◌, List, [], ◌∷◌, ◌++◌, Option, Some, None, Result, Ok, Err, inl, inr, refl, sym, ap, ap₂, ◌∙◌, subst, map, filter, length, replicate, Ordering}
+use Rattle.std.proofs.Common.{◌≡◌, ℕ, zero, suc, true, false, cond, not, ◌||◌, ◌&&◌, List, [], ◌∷◌, ◌++◌, Option, Some, None, Result, Ok, Err, inl, inr, refl, sym, ap, ◌∙◌, map, filter, length, replicate}
 use Rattle.std.specs.Prelude.{is_some, ◌==◌}
 use Rattle.std.specs.List.{AllByRecursion, filter_map, flat_map, cons_option, list_any}
 use Rattle.std.specs.List.Sorted.{IsStrictlySortedBy}
 use Rattle.std.specs.Cmp.Lexicographic.{bytes_decides}
 use Rattle.std.specs.Ordering.{is_eq}
 use Rattle.std.specs.Str.{bytes_eq}
-use Rattle.std.specs.declared.cmp.Ordering.TheVariants.{Less, Equal, Greater}
+use Rattle.std.specs.declared.cmp.Ordering.TheVariants.{Less, Equal}
 use Rattle.std.proofs.lemmas.Cmp.{nat_list_cmp_total}
 use Rattle.std.proofs.lemmas.Map.Text.{is_eq-slice_cmp}
+use Rattle.std.proofs.lemmas.List.{map-append}
+use Rattle.std.proofs.lemmas.Bool.{or_right}
 use Rattle.star_io.specs.declared.record.Record.{Record}
 use Rattle.star_io.specs.declared.record.Record.TheVariants.{Whole, TooLong, CutLength, CutRecord}
 use Rattle.report_frame.specs.Frame.{Fields}
 use Rattle.report_frame.specs.Reading.{decoded}
 use Rattle.report_frame.specs.declared.fault.Fault.{Fault}
 use Rattle.star_lists.specs.Ascending.{ascending}
-use Rattle.star_lists.proofs.Elements.{In, map-append}
 use Rattle.star_lists.proofs.FirstOnes.{Apart}
 use Rattle.star_lists.proofs.Ascending.{rising_ascending, Tied, tied_ascending}
+use Rattle.star_lists.specs.Elements.{EquallyOften}
+use Rattle.star_lists.proofs.Counted.{often_filter_map}
+use Rattle.star_lists.proofs.Gathered.{gathered, gathered_often}
 use Rattle.layer_walk.specs.Reveal.{first_frame, reveal_of}
 use Rattle.layer_walk.specs.Members.{frame_for}
 use Rattle.layer_walk.specs.declared.refusal.Why.TheVariants.{WrongEpoch, WrongLevel}
-use Rattle.layer_walk.specs.Laws.{EquallyOften, frame_in, first_frames, TellAlike}
-use Rattle.layer_walk.proofs.Counted.{often_filter_map}
+use Rattle.layer_walk.specs.Laws.{frame_in, first_frames, TellAlike}
 use Rattle.layer_walk.proofs.AlikeReveal.{tell_alike}
-use Rattle.book_file.specs.Book.{Entry, by_bytes, is_outer, is_outer_frame}
+use Rattle.book_file.specs.Book.{by_bytes, is_outer}
 use Rattle.book_file.specs.BookOf.{is_taken, body_of, bodies_of, times, entry_of, book_of}
 use Rattle.book_merge.specs.Records.{entry_records, records_of}
-use Rattle.book_merge.proofs.Gathered.{gathered, gathered_often}
 
 -- ---- the frames of a book
 
@@ -57,11 +59,7 @@ rising_apart (x ∷ xs) h = (none_before x xs h.0, rising_apart xs h.1)
 tied_any : (z : List ℕ) (ys : List (List ℕ)) → Tied by_bytes nat_list_cmp_total z ys → list_any (λ y. bytes_eq y z) ys ≡ true
 tied_any z [] i = absurd i
 tied_any z (y ∷ ys) (inl tie) = ap (λ b. b || list_any (λ y. bytes_eq y z) ys) (tied_equal z y tie)
-tied_any z (y ∷ ys) (inr i) = right_true (bytes_eq y z) (list_any (λ y. bytes_eq y z) ys) (tied_any z ys i)
-  where
-    right_true : (a b : Bool) → b ≡ true → (a || b) ≡ true
-    right_true true b h = refl
-    right_true false b h = h
+tied_any z (y ∷ ys) (inr i) = or_right (bytes_eq y z) (list_any (λ y. bytes_eq y z) ys) (tied_any z ys i)
 
 -- the bodies that a book gives stand in it as often as they came
 given_often : (bodies : List (List ℕ)) → EquallyOften (gathered bytes_eq bytes_joined (ascending by_bytes bodies) bodies) bodies

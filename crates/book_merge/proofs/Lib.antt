@@ -1,4 +1,3 @@
-pub mod Gathered
 pub mod BookReveals
 pub mod Readings
 pub mod Sums

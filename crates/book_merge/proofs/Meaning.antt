@@ -1,6 +1,6 @@
 -- What the sum of the books of some bytes is, and what it means that they have none.
-use Rattle.std.proofs.Common.{◌≡◌, ◌≢◌, ◌⊎◌, ℕ, zero, suc, ◌+◌, ◌<◌, ◌≤◌, Bool, true, false, cond, not, eqb, List, [], ◌∷◌, length, drop, sum, map, Result, Ok, Err, inl, inr, refl, sym, ap, ◌∙◌, subst, arith}
-use Rattle.std.specs.Prelude.{◌==◌, ◌↔◌, nat_lt}
+use Rattle.std.proofs.Common.{◌≡◌, ◌≢◌, ◌⊎◌, ℕ, zero, suc, ◌+◌, ◌<◌, ◌≤◌, List, [], ◌∷◌, length, drop, sum, Result, Ok, Err, inl, inr, refl, sym, ap, ◌∙◌, subst, arith}
+use Rattle.std.specs.Prelude.{◌↔◌}
 use Rattle.std.proofs.lemmas.Bool.{cases_lt, cases_eq, lt-ltb, le-ltb, eq-eqb, ne_eqb}
 use Rattle.std.proofs.lemmas.List.{length-drop}
 use Rattle.std.proofs.Math.Seq.{drop-append_seam}
@@ -19,9 +19,9 @@ use Rattle.book_file.proofs.Spelled.{begins_at, read_fault, read_wrong, spelling
 use Rattle.book_merge.specs.declared.fault.MergeFault.{MergeFault}
 use Rattle.book_merge.specs.declared.fault.MergeFault.TheVariants.{TooMany, BadBook as BadBookFault, BookEpoch}
 use Rattle.book_merge.specs.declared.limits.TheConstants.{MAX_BOOKS_BYTES}
-use Rattle.book_merge.specs.Merging.{Reading, used_by, behind, readings, added, with_readings, empty_book, merged}
+use Rattle.book_merge.specs.Merging.{Reading, readings, added, with_readings, empty_book, merged}
 use Rattle.book_merge.specs.Sums.{BeginBooks, with_books, CanAdd, Books, IsSumOf, HasBadBook, HasOtherEpoch, HasTooMuch}
-use Rattle.book_merge.proofs.Readings.{used-least, used-most, readings-nil, readings-more}
+use Rattle.book_merge.proofs.Readings.{used-least, readings-nil, readings-more}
 use Rattle.book_merge.proofs.Sums.{not_empty, few_merged, many_merged}
 
 -- ---- one book more

@@ -10,9 +10,10 @@ use Rattle.std.proofs.lemmas.List.Sorted.{sum_by-IsPermutation}
 use Rattle.std.proofs.lemmas.List.Sums.{sum_by-cons}
 use Rattle.std.proofs.lemmas.Map.Text.{is_eq-slice_cmp}
 use Rattle.star_io.specs.declared.record.Record.{Record}
-use Rattle.layer_walk.specs.Laws.{EquallyOften}
-use Rattle.layer_walk.proofs.Counted.{length-filter-map}
 use Rattle.star_lists.specs.Ascending.{ascending}
+use Rattle.star_lists.specs.Elements.{EquallyOften}
+use Rattle.star_lists.proofs.Counted.{length-filter-map}
+use Rattle.star_lists.proofs.Mapped.{filter_both}
 use Rattle.book_file.specs.Book.{by_bytes}
 use Rattle.book_file.specs.BookOf.{is_taken, body_of, bodies_of, times, book_of}
 use Rattle.book_file.proofs.Entries.{found, has, found_made, has_ascending, rises_made, same_entries}
@@ -21,21 +22,12 @@ use Rattle.book_merge.specs.Machines.{records_of_all}
 
 -- ---- records
 
-both_passed : {X : Type 0} (p q : X → Bool) (xs : List X) → filter p (filter q xs) ≡ filter (λ x. q x && p x) xs
-both_passed p q [] = refl
-both_passed p q (x ∷ xs) =
-    let rest = both_passed p q xs in
-    elim (q x) as (λ b. filter p (cond b (x ∷ filter q xs) (filter q xs)) ≡ cond (b && p x) (x ∷ filter (λ x. q x && p x) xs) (filter (λ x. q x && p x) xs)) [
-      | true ↦ ap (λ l. cond (p x) (x ∷ l) l) rest
-      | false ↦ rest
-    ]
-
 -- each frame stands equally often among the bodies
 often_bodies : (e : ℕ) (xs ys : List Record) → EquallyOften xs ys → EquallyOften (bodies_of e xs) (bodies_of e ys)
 unfolding bodies_of
 often_bodies e xs ys often p =
     let counted : (rs : List Record) → length (filter p (map body_of (filter (is_taken e) rs))) ≡ length (filter (λ r. is_taken e r && p (body_of r)) rs) = λ rs.
-    length-filter-map p body_of (filter (is_taken e) rs) ∙ ap length (both_passed (λ r. p (body_of r)) (is_taken e) rs) in
+    length-filter-map p body_of (filter (is_taken e) rs) ∙ ap length (filter_both (is_taken e) (λ r. p (body_of r)) rs) in
     counted xs ∙ often (λ r. is_taken e r && p (body_of r)) ∙ sym (counted ys)
 
 -- a frame is there where it stands at least once

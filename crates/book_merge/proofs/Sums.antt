@@ -1,6 +1,6 @@
 -- The sum of books, reading after reading.
 use Rattle.std.proofs.Common.{◌≡◌, ℕ, ◌+◌, ◌-◌, ◌*◌, ◌<◌, ◌≤◌, List, [], ◌∷◌, length, drop, Bool, true, false, cond, not, inl, inr, Option, None, Some, Result, Ok, Err, refl, sym, ap, ◌∙◌, subst, arith}
-use Rattle.std.specs.Prelude.{⊤, ◌==◌, nat_lt, IfOk, IfErr, MatchResult, IsErrAnd}
+use Rattle.std.specs.Prelude.{⊤, ◌==◌, nat_lt, IfOk, IfErr}
 use Rattle.std.proofs.lemmas.Bool.{cases_lt, lt-ltb, le-ltb}
 use Rattle.std.proofs.lemmas.List.{length-drop, drop-drop, nil_from_length}
 use Rattle.star_io.specs.declared.record.TheConstants.{MAX_RECORDS}
@@ -16,7 +16,7 @@ use Rattle.book_merge.specs.declared.fault.MergeError.TheVariants.{Fault}
 use Rattle.book_merge.specs.declared.fault.MergeFault.{MergeFault}
 use Rattle.book_merge.specs.declared.fault.MergeFault.TheVariants.{TooMany, BookEpoch}
 use Rattle.book_merge.specs.declared.limits.TheConstants.{MAX_BOOKS_BYTES, MAX_BOOKS}
-use Rattle.book_merge.specs.Merging.{Reading, used_by, behind, readings, added, sum_with, fault_with, with_readings, empty_book, merged, end_of, merge_rest, IsSum, HasFault, IsAnswer}
+use Rattle.book_merge.specs.Merging.{Reading, used_by, behind, readings, sum_with, fault_with, with_readings, empty_book, merged, end_of, merge_rest, IsSum, HasFault, IsAnswer}
 use Rattle.book_merge.proofs.Readings.{used-least, used-most, readings-nil, readings-more}
 
 -- So many of the bytes were taken, which are so many books, with this sum so far. The rest of them gives what is looked for.

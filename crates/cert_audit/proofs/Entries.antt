@@ -1,8 +1,9 @@
 -- The certificate as a layout: what its entries are, and which certificate entries are those of.
-use Rattle.std.proofs.Common.{◌≡◌, ℕ, zero, suc, ◌+◌, ◌*◌, ◌<◌, ◌≤◌, List, [], ◌∷◌, ◌++◌, length, map, drop, slice_index, refl, sym, ap, ap₂, subst, ◌∙◌, append_assoc, rules, arith, length-append}
+use Rattle.std.proofs.Common.{◌≡◌, ℕ, zero, suc, ◌+◌, ◌*◌, ◌<◌, ◌≤◌, List, [], ◌∷◌, ◌++◌, length, map, drop, refl, sym, ap, ap₂, subst, ◌∙◌, append_assoc, rules, arith, length-append}
 use Rattle.std.specs.Prelude.{All}
 use Rattle.std.proofs.lemmas.List.{drop_at}
 use Rattle.std.proofs.lemmas.List.Elements.{All-nil, All-cons, All-head, All-tail, All-weaker}
+use Rattle.std.proofs.Math.Nat.{le_antisymm}
 use Rattle.field61.specs.declared.TheConstants.{MODULUS}
 use Rattle.field61.specs.Field.{AreElements}
 use Rattle.report_frame.specs.declared.head.Head.{Head}
@@ -14,6 +15,7 @@ use Rattle.report_frame.specs.Reading.{number_in}
 use Rattle.report_frame.proofs.VersionFacts.{version_of_number, number_of_version, number_low, number_high, level_fits, threshold_fits}
 use Rattle.shamir_limbs.specs.declared.share.Point.{Point}
 use Rattle.shamir_limbs.specs.KeyLine.{xs_of}
+use Rattle.shamir_limbs.proofs.LimbLaws.{three_items}
 use Rattle.cert_audit.specs.declared.kind.CertKind.{CertKind}
 use Rattle.cert_audit.specs.declared.limits.TheConstants.{CERT_MAGIC, CERT_FORMAT}
 use Rattle.cert_audit.specs.declared.cert.Cert.{Cert}
@@ -169,10 +171,6 @@ points_first (suc n) previous rest es after =
       after = more.after;
     }))))
 
--- a number of a field with one value
-pinned : (n value : ℕ) → value ≤ n → n ≤ value → n ≡ value
-pinned n value enough within = omega arith
-
 -- a certificate in range has these entries
 pub record HasCert (es : List Entry) : Type 0 where
   pub cert : Cert
@@ -196,8 +194,8 @@ whole_entries es whole =
     number_first (HasCert es) _ _ _ _ _ es11 whole11 (λ n es12 n_is _ n_high whole12.
     let points = points_first n 0 (numbers_layout (3 * k)) es12 whole12 in
     let numbers = numbers_first (3 * k) points.others points.after in
-    let is_magic = pinned magic CERT_MAGIC magic_low magic_high in
-    let is_format = pinned format CERT_FORMAT format_low format_high in
+    let is_magic = le_antisymm magic_high magic_low in
+    let is_format = le_antisymm format_high format_low in
     let is_number = number_of_version number number_low number_high in
     let head : Head = record { version = version_of number; k = k; tag = tag; check = check; boxed = boxed } in
     let cert : Cert = record { level = level; epoch = epoch; parent = parent; head = head; points = points.points; numbers = numbers.numbers } in
@@ -230,17 +228,10 @@ whole_entries es whole =
 
 -- ---- and back
 
-three : (y : List ℕ) → length y ≡ 3 → slice_index y 0 ∷ slice_index y 1 ∷ slice_index y 2 ∷ [] ≡ y
-three [] is = absurd (omega arith)
-three (a ∷ []) is = absurd (omega arith)
-three (a ∷ b ∷ []) is = absurd (omega arith)
-three (a ∷ b ∷ c ∷ []) is = refl
-three (a ∷ b ∷ c ∷ d ∷ ds) is = absurd (omega arith)
-
 points_in-point_entries : (points : List Point) (es : List Entry) → All (λ p. length p.y ≡ 3) points → points_in (length points) (point_entries points ++ es) ≡ points
 points_in-point_entries [] es are = refl
 points_in-point_entries (p ∷ ps) es are =
-    ap₂ (λ (y : List ℕ) (qs : List Point). let q : Point = record { x = p.x; y = y } in q ∷ qs) (three p.y (All-head (λ (q : Point). length q.y ≡ 3) p ps are)) (points_in-point_entries ps es (All-tail (λ (q : Point). length q.y ≡ 3) p ps are))
+    ap₂ (λ (y : List ℕ) (qs : List Point). let q : Point = record { x = p.x; y = y } in q ∷ qs) (three_items p.y (All-head (λ (q : Point). length q.y ≡ 3) p ps are)) (points_in-point_entries ps es (All-tail (λ (q : Point). length q.y ≡ 3) p ps are))
 
 length-point_entries : (points : List Point) → length (point_entries points) ≡ 4 * length points
 length-point_entries [] = refl

@@ -1,5 +1,6 @@
 -- Reading the fields of a certificate up to its threshold.
-use Rattle.std.proofs.Common.{◌≡◌, ℕ, ◌-◌, ◌*◌, ◌^◌, ◌≤◌, List, [], ◌∷◌, Result, Ok, Err, refl, ap, ◌∙◌, arith, IfOk, IfErr}
+use Rattle.std.proofs.Common.{◌≡◌, ℕ, ◌-◌, ◌*◌, ◌^◌, ◌≤◌, List, [], ◌∷◌, Result, Ok, Err, refl, ap, ◌∙◌, IfOk, IfErr}
+use Rattle.std.proofs.Math.Nat.{le_antisymm}
 use Rattle.report_frame.specs.declared.limits.TheConstants.{MIN_THRESHOLD}
 use Rattle.report_frame.specs.declared.version.Version.{Version}
 use Rattle.report_frame.specs.declared.version.Version.TheVariants.{One, Two}
@@ -19,10 +20,6 @@ use Rattle.cert_audit.specs.Front.{entries_of_start, entries_of_front}
 use Rattle.cert_audit.specs.Reading.{number_at, read}
 use Rattle.cert_audit.proofs.Walk.{Answer, read-number}
 
--- a number of a field with one value
-pinned : (n value : ℕ) → value ≤ n → n ≤ value → n ≡ value
-pinned n value enough within = omega arith
-
 -- the fields up to the version
 magic_read : (b0 b1 b2 b3 : List ℕ) (magic format : ℕ) (v : Version)
     → number_at EightBytes Magic CERT_MAGIC CERT_MAGIC 0 b0 ≡ Ok (magic, b1) → CERT_MAGIC ≤ magic → magic ≤ CERT_MAGIC
@@ -37,8 +34,8 @@ magic_read b0 b1 b2 b3 magic format v is0 low0 high0 is1 low1 high1 is2 =
     ∙ read-number OneByte Format CERT_FORMAT CERT_FORMAT formats 8 8 (Number magic ∷ []) b1 format b2 refl is1
     ∙ read-number OneByte Range (version_number One) (version_number Two) versions 9 9 (Number magic ∷ Number format ∷ []) b2 (version_number v) b3 refl is2
     ∙ ap (λ (w : Version). read (behind_version w) 10 (Number magic ∷ Number format ∷ Number (version_number v) ∷ []) b3) (version_of_number v)
-    ∙ ap (λ (n : ℕ). read (behind_version v) 10 (Number n ∷ Number format ∷ Number (version_number v) ∷ []) b3) (pinned magic CERT_MAGIC low0 high0)
-    ∙ ap (λ (n : ℕ). read (behind_version v) 10 (Number CERT_MAGIC ∷ Number n ∷ Number (version_number v) ∷ []) b3) (pinned format CERT_FORMAT low1 high1)
+    ∙ ap (λ (n : ℕ). read (behind_version v) 10 (Number n ∷ Number format ∷ Number (version_number v) ∷ []) b3) (le_antisymm high0 low0)
+    ∙ ap (λ (n : ℕ). read (behind_version v) 10 (Number CERT_MAGIC ∷ Number n ∷ Number (version_number v) ∷ []) b3) (le_antisymm high1 low1)
 
 -- and those behind it
 level_read : (v : Version) (b3 b4 b5 b6 : List ℕ) (level epoch k : ℕ)

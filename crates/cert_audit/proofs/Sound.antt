@@ -1,7 +1,7 @@
 -- What an audit says yes to is opened so, and what is opened so has a certificate that it says yes to.
 use Rattle.std.proofs.Common.{◌≡◌, ℕ, [], ◌∷◌, ◌+◌, ◌-◌, ◌*◌, ◌<◌, ◌≤◌, Bool, true, false, ltb, List, Option, Some, None, drop, refl, sym, ap, ◌∙◌, length, arith}
 use Rattle.std.specs.Prelude.{if◌then◌else◌, not, slice_range, ◌↔◌, IsSome, is_some}
-use Rattle.std.proofs.lemmas.Bool.{false≢true, lt-ltb, le-ltb, ltb-true, ltb-false, and_parts, and_from}
+use Rattle.std.proofs.lemmas.Bool.{false≢true, lt-ltb, le-ltb, ltb-false}
 use Rattle.std.proofs.lemmas.List.{get_or_past, length-take}
 use Rattle.std.proofs.lemmas.List.Elements.{All-take, All-drop, All-map, All-weaker}
 use Rattle.field61.specs.Field.{AreElements}
@@ -13,7 +13,7 @@ use Rattle.shamir_limbs.specs.Coefficients.{values}
 use Rattle.shamir_limbs.specs.KeyLine.{xs_of, AreDistinct, HasDegreeBelow, agreement_of_all, IsKeyLine}
 use Rattle.shamir_limbs.specs.Limbs.{AreLimbs}
 use Rattle.shamir_limbs.specs.Search.{are_limbs}
-use Rattle.shamir_limbs.proofs.LineSearch.{line_of_polynomials}
+use Rattle.shamir_limbs.proofs.LineSearch.{are_limbs-true, AreLimbs-are_limbs, line_of_polynomials}
 use Rattle.cert_audit.specs.declared.cert.Cert.{Cert}
 use Rattle.cert_audit.specs.declared.verdict.Verdict.{Verdict}
 use Rattle.cert_audit.specs.declared.verdict.Verdict.TheVariants.{Yes, Few, Key as WrongKey, Short}
@@ -46,15 +46,6 @@ says_yes false true false agree (Some w) v m is =
     record { many = refl; key = refl; enough = refl; agrees = count; opens = ap Some same }
 
 -- ---- what the ranges of a certificate say
-
-limbs_are : (numbers : List ℕ) → are_limbs numbers ≡ true → AreLimbs numbers
-limbs_are numbers is =
-    let parts = and_parts _ _ is in
-    let rest = and_parts _ _ parts.1 in
-    (ltb-true _ _ parts.0, ltb-true _ _ rest.0, ltb-true _ _ rest.1)
-
-are_limbs-true : (numbers : List ℕ) → AreLimbs numbers → are_limbs numbers ≡ true
-are_limbs-true numbers is = and_from _ _ (lt-ltb _ _ is.0) (and_from _ _ (lt-ltb _ _ is.1) (lt-ltb _ _ is.2))
 
 pub polynomial-elements : (c : Cert) (j : ℕ) → InRange c → AreElements (polynomial_of c j)
 polynomial-elements c j range =
@@ -92,7 +83,7 @@ unfolding verdict_of
 limbs_tested c many limbs =
     let short : Bool = ltb (2 * agree_of c) (length c.points + c.head.k) in
     ap (λ (b : Bool). tested b (are_limbs (claimed_limbs c)) short (agree_of c) (claimed_value c)) (le-ltb (length c.points) c.head.k many)
-    ∙ ap (λ (b : Bool). tested false b short (agree_of c) (claimed_value c)) (are_limbs-true (claimed_limbs c) limbs)
+    ∙ ap (λ (b : Bool). tested false b short (agree_of c) (claimed_value c)) (AreLimbs-are_limbs (claimed_limbs c) limbs)
 
 pub verdict-short : (c : Cert) → c.head.k ≤ length c.points → AreLimbs (claimed_limbs c) → 2 * agree_of c < length c.points + c.head.k → verdict_of c ≡ Short (agree_of c)
 verdict-short c many limbs short =
@@ -106,7 +97,7 @@ verdict-value c many limbs enough =
 pub limbs_wrong : (o : Option Key) (numbers : List ℕ) → (IsSome o ↔ AreLimbs numbers) → o ≡ None → are_limbs numbers ≡ false
 limbs_wrong o numbers found none =
     elim (are_limbs numbers) as (λ b. are_limbs numbers ≡ b → b ≡ false) [
-      | true ↦ λ is. absurd (let some : IsSome o = found.1 (limbs_are numbers is) in false≢true (sym (ap is_some none) ∙ some))
+      | true ↦ λ is. absurd (let some : IsSome o = found.1 (are_limbs-true numbers is) in false≢true (sym (ap is_some none) ∙ some))
       | false ↦ λ is. refl
     ] refl
 
@@ -144,7 +135,7 @@ audit_sound c value agree range said =
     let line : IsKeyLine (polynomial_of c 0) (polynomial_of c 1) (polynomial_of c 2) c.points k = record {
       elements = (polynomial-elements c 0 range, polynomial-elements c 1 range, polynomial-elements c 2 range);
       below = (polynomial-below c 0, polynomial-below c 1, polynomial-below c 2);
-      limbs = limbs_are (claimed_limbs c) yes.key;
+      limbs = are_limbs-true (claimed_limbs c) yes.key;
       agrees = ltb-false (2 * agree_of c) (n + k) yes.enough;
     } in
     record {

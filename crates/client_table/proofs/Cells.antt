@@ -1,7 +1,7 @@
 -- The cells of a record, and where it is bad.
 use Rattle.std.proofs.Common.{◌≡◌, ◌∙◌, ◌<◌, ◌≤◌, ◌||◌, ◌==◌, ◌+◌, ℕ, zero, suc, Bool, true, false, List, [], ◌∷◌, ◌++◌, length, take, get_or, Option, Some, None, refl, ap, sym, subst, arith, inl, inr, eq-eqb}
 use Rattle.std.specs.Prelude.{nat_lt, is_some}
-use Rattle.std.proofs.lemmas.Bool.{cases_lt, le-ltb, lt-ltb}
+use Rattle.std.proofs.lemmas.Bool.{cases_lt, le-ltb, lt-ltb, or_parts}
 use Rattle.std.proofs.lemmas.Bool.Decides.{nat_tests}
 use Rattle.report_frame.specs.declared.limits.TheConstants.{MAX_VALUE}
 use Rattle.report_frame.specs.declared.version.Version.{Version}
@@ -91,15 +91,10 @@ row-value width cells row i lt =
     let good : ((i == width) || ((length cell == 0) || nat_lt MAX_VALUE (length cell))) ≡ false = ap (is_bad_cell One width i) (sym there.1) ∙ row.good i in
     subst (λ (v : List ℕ). (1 ≤ length v) × (length v ≤ MAX_VALUE)) (sym same) (none_bad (i == width) (length cell) good)
   where
-    both : (a b : Bool) → (a || b) ≡ false → (a ≡ false) × (b ≡ false)
-    both true b e = absurd (let bad : true ≡ false = e in cc)
-    both false true e = absurd (let bad : true ≡ false = e in cc)
-    both false false e = (refl, refl)
-
     none_bad : (behind : Bool) (size : ℕ) → (behind || ((size == 0) || nat_lt MAX_VALUE size)) ≡ false → (1 ≤ size) × (size ≤ MAX_VALUE)
     none_bad true size good = absurd (let bad : true ≡ false = good in cc)
     none_bad false size good =
-        let parts = both (size == 0) (nat_lt MAX_VALUE size) good in (
+        let parts = or_parts (size == 0) (nat_lt MAX_VALUE size) good in (
           elim (cases_lt 0 size) [
             | inl some ↦ omega (arith, some)
             | inr none ↦ absurd (let bad : true ≡ false = sym (eq-eqb size 0 (omega arith)) ∙ parts.0 in cc)

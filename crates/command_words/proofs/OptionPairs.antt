@@ -3,7 +3,7 @@ use Rattle.std.proofs.Common.{◌==◌, ◌≡◌, ◌∙◌, ◌&&◌, ◌||◌
 use Rattle.std.specs.List.{list_all}
 use Rattle.std.specs.Option.{option_or}
 use Rattle.std.specs.Str.{bytes_eq}
-use Rattle.std.proofs.lemmas.Bool.{and_parts, cases_Bool}
+use Rattle.std.proofs.lemmas.Bool.{and_parts, cases_Bool, or_parts}
 use Rattle.std.proofs.lemmas.List.{append-nil, append_assoc}
 use Rattle.std.proofs.lemmas.List.Folds.{list_any-append}
 use Rattle.std.proofs.lemmas.Slice.Eq.{bytes_eq-Decides}
@@ -40,11 +40,7 @@ bad-long word bad = go (is_value word) (long_of word) bad
 
 -- and is no value
 bad-value : (word : Text) → is_option_word word ≡ false → is_value word ≡ false
-bad-value word bad = go (is_value word) (is_some (long_of word)) bad
-  where
-    go : (b d : Bool) → (b || d) ≡ false → b ≡ false
-    go true d e = cc e
-    go false d e = refl
+bad-value word bad = (or_parts (is_value word) (is_some (long_of word)) bad).0
 
 -- such a word does not follow a name as its value
 not-parted : (next : Text) (named : Option (Text × Option Text)) → is_value next ≡ false

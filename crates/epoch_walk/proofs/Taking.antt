@@ -1,19 +1,17 @@
 -- A walk over many epochs that takes one more record.
-use Rattle.std.proofs.Common.{◌≡◌, ℕ, ◌+◌, ◌<◌, arith, List, [], ◌∷◌, ◌++◌, Option, None, Some, Ok, Err, length, sym, ap, ◌∙◌, subst, zero-add, length-append, append-nil}
+use Rattle.std.proofs.Common.{◌≡◌, ℕ, ◌+◌, ◌<◌, arith, List, [], ◌∷◌, ◌++◌, Option, None, Some, Ok, Err, length, sym, ap, ◌∙◌, subst, length-append, append-nil}
 use Rattle.std.specs.Prelude.{◌≢◌}
 use Rattle.std.specs.List.{cons_option}
 use Rattle.std.specs.Option.{ForSome}
 use Rattle.std.specs.Ordering.{nat_cmp}
 use Rattle.std.specs.BTreeMap.{BTreeMap, get, IsOrdered}
 use Rattle.std.specs.Map.{keys_of}
-use Rattle.std.proofs.lemmas.List.Elements.{filter_map-append, All-weaker}
+use Rattle.std.proofs.lemmas.List.Elements.{All-weaker}
 use Rattle.star_io.specs.declared.record.Record.{Record}
 use Rattle.star_io.specs.declared.record.TheConstants.{MAX_RECORDS}
-use Rattle.star_lists.specs.Numbered.{numbered_from}
 use Rattle.star_lists.proofs.Elements.{filter_fewer}
-use Rattle.star_lists.proofs.Numbered.{numbered_push}
+use Rattle.star_lists.proofs.Numbered.{given_push}
 use Rattle.layer_walk.specs.declared.refusal.Why.{Why}
-use Rattle.layer_walk.specs.Reveal.{some_of}
 use Rattle.layer_walk.specs.Seen.{WalkView}
 use Rattle.layer_walk.specs.Standing as one
 use Rattle.epoch_walk.specs.declared.stray.Stray.{Stray}
@@ -25,9 +23,7 @@ use Rattle.epoch_walk.proofs.EpochLists.{part_apart, epochs_stray}
 use Rattle.epoch_walk.proofs.AtEpoch.{stands_at_each, keys_from_each, walks_from_each, stands_grown}
 
 strays-push : (records : List Record) (item : Record) → strays (records ++ item ∷ []) ≡ strays records ++ cons_option (stray_of (length records) (epoch_of item)) []
-strays-push records item =
-    ap some_of (numbered_push 0 (λ i r. stray_of i (epoch_of r)) records item ∙ ap (λ n. numbered_from 0 (λ i r. stray_of i (epoch_of r)) records ++ stray_of n (epoch_of item) ∷ []) (zero-add (length records)))
-    ∙ filter_map-append (λ (o : Option Stray). o) (numbered_from 0 (λ i r. stray_of i (epoch_of r)) records) (stray_of (length records) (epoch_of item) ∷ [])
+strays-push records item = given_push (λ i r. stray_of i (epoch_of r)) records item
 
 -- a report of level 0
 pub takes_report : (taken : ℕ) (m n : BTreeMap ℕ WalkView) (lost : List Stray) (item : Record) (e : ℕ) → epoch_of item ≡ Ok e → IsOrdered nat_cmp n

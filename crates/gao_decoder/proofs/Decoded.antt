@@ -1,8 +1,7 @@
 -- What the stopped sequence tells of the polynomial that is looked for.
-use Rattle.std.proofs.Common.{ℕ, zero, suc, ◌+◌, ◌*◌, ◌/◌, ◌<◌, ◌≤◌, ◌≡◌, ◌∙◌, sym, ap, refl, arith, Bool, true, eqb, inl, inr, List, [], ◌∷◌, length, get_or, take, subst}
+use Rattle.std.proofs.Common.{ℕ, zero, suc, ◌+◌, ◌*◌, ◌/◌, ◌<◌, ◌≤◌, ◌≡◌, ◌∙◌, sym, ap, refl, arith, Bool, true, eqb, inl, inr, List, [], ◌∷◌, length, get_or, take, subst, get_or-take}
 use Rattle.std.proofs.lemmas.Bool.{cases_lt, eqb-true, eq-eqb}
 use Rattle.std.proofs.Math.ListN.{set, length-take}
-use Rattle.std.proofs.Common.{get_or-take}
 use Rattle.field61.specs.Field.{field_product, AreElements}
 use Rattle.field61.proofs.FieldLaws.{zero_product, one_product}
 use Rattle.poly61.specs.Poly.{value, IsZero, HasDegreeBelow, SameCoefficients, PassesThrough, AreDistinct}

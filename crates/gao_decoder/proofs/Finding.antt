@@ -1,42 +1,23 @@
--- What is in a list, and what a search of it finds.
-use Rattle.std.proofs.Common.{◌≡◌, ◌∙◌, ℕ, zero, suc, ◌+◌, ◌<◌, ◌≤◌, Bool, true, false, cond, List, [], ◌∷◌, ◌++◌, ◌⊎◌, inl, inr, Some, IsSome, IfSome, map, refl, sym, ap, subst, arith}
+-- What a search of a list finds, and the elements of what it searches.
+use Rattle.std.proofs.Common.{◌≡◌, ◌∙◌, ℕ, zero, suc, ◌+◌, ◌<◌, ◌≤◌, Bool, true, false, cond, List, [], ◌∷◌, inl, inr, Some, IsSome, IfSome, refl, sym, ap, subst, arith}
 use Rattle.std.specs.List.{All, find, flat_map, range_with_len}
 use Rattle.std.proofs.lemmas.Bool.{cases_lt, false≢true}
 use Rattle.std.proofs.lemmas.List.Elements.{All-nil, All-head, All-tail, All-append, All-from_get_or}
 use Rattle.std.proofs.lemmas.List.FromFn.{length-range_with_len, get_or-range_with_len}
-
--- x is an element
-abbrev pub IsIn : {X : Type 0} → X → List X → Type 0
-IsIn x [] = ⊥
-IsIn x (y ∷ ys) = (x ≡ y) ⊎ IsIn x ys
-
--- an element of one part is an element of both
-pub IsIn-append_left : {X : Type 0} (x : X) (xs ys : List X) → IsIn x xs → IsIn x (xs ++ ys)
-IsIn-append_left x [] ys i = absurd i
-IsIn-append_left x (y ∷ xs) ys (inl e) = inl e
-IsIn-append_left x (y ∷ xs) ys (inr i) = inr (IsIn-append_left x xs ys i)
-
-pub IsIn-append_right : {X : Type 0} (x : X) (xs ys : List X) → IsIn x ys → IsIn x (xs ++ ys)
-IsIn-append_right x [] ys i = i
-IsIn-append_right x (y ∷ xs) ys i = inr (IsIn-append_right x xs ys i)
-
--- the image of an element is an element of the images
-pub IsIn-map : {X Y : Type 0} (f : X → Y) (x : X) (xs : List X) → IsIn x xs → IsIn (f x) (map f xs)
-IsIn-map f x [] i = absurd i
-IsIn-map f x (y ∷ xs) (inl e) = inl (ap f e)
-IsIn-map f x (y ∷ xs) (inr i) = inr (IsIn-map f x xs i)
+use Rattle.star_lists.proofs.Elements.{In}
+use Rattle.star_lists.proofs.Inside.{in_left, in_right}
 
 -- an element of what belongs to an element
-pub IsIn-flat_map : {X Y : Type 0} (f : X → List Y) (x : X) (y : Y) (xs : List X) → IsIn x xs → IsIn y (f x) → IsIn y (flat_map f xs)
-IsIn-flat_map f x y [] i j = absurd i
-IsIn-flat_map f x y (w ∷ xs) (inl e) j = IsIn-append_left y (f w) (flat_map f xs) (subst (λ v. IsIn y (f v)) e j)
-IsIn-flat_map f x y (w ∷ xs) (inr i) j = IsIn-append_right y (f w) (flat_map f xs) (IsIn-flat_map f x y xs i j)
+pub in_flat_map : {X Y : Type 0} (f : X → List Y) (x : X) (y : Y) (xs : List X) → In x xs → In y (f x) → In y (flat_map f xs)
+in_flat_map f x y [] i j = absurd i
+in_flat_map f x y (w ∷ xs) (inl e) j = in_left y (f w) (flat_map f xs) (subst (λ v. In y (f v)) e j)
+in_flat_map f x y (w ∷ xs) (inr i) j = in_right y (f w) (flat_map f xs) (in_flat_map f x y xs i j)
 
 -- the numbers from a on, up to their end
-pub IsIn-range_with_len : (x a n : ℕ) → a ≤ x → x < a + n → IsIn x (range_with_len a n)
-IsIn-range_with_len x a zero from below = absurd (omega arith)
-IsIn-range_with_len x a (suc n) from below = elim (cases_lt a x) [
-  | inl later ↦ inr (IsIn-range_with_len x (a + 1) n (omega arith) (omega arith))
+pub in_range_with_len : (x a n : ℕ) → a ≤ x → x < a + n → In x (range_with_len a n)
+in_range_with_len x a zero from below = absurd (omega arith)
+in_range_with_len x a (suc n) from below = elim (cases_lt a x) [
+  | inl later ↦ inr (in_range_with_len x (a + 1) n (omega arith) (omega arith))
   | inr here ↦ inl (omega arith)
 ]
 
@@ -60,7 +41,7 @@ IfSome-find test P (x ∷ xs) all =
     ] refl
 
 -- something is found where an element passes the test
-pub IsSome-find : {X : Type 0} (test : X → Bool) (x : X) (xs : List X) → IsIn x xs → test x ≡ true → IsSome (find test xs)
+pub IsSome-find : {X : Type 0} (test : X → Bool) (x : X) (xs : List X) → In x xs → test x ≡ true → IsSome (find test xs)
 IsSome-find test x [] i passes = absurd i
 IsSome-find test x (y ∷ xs) i passes =
     elim (test y) as (λ b. test y ≡ b → IsSome (cond b (Some y) (find test xs))) [

@@ -13,7 +13,9 @@ use Rattle.gao_decoder.specs.Decoding.{agreement, IsDecoded}
 use Rattle.gao_decoder.specs.Search.{polynomials_below, is_decoded, decoding_of}
 use Rattle.gao_decoder.proofs.Counting.{agreement_same}
 use Rattle.gao_decoder.proofs.Decoded.{one_decoded}
-use Rattle.gao_decoder.proofs.Finding.{IsIn, IsIn-map, IsIn-flat_map, IsIn-range_with_len, All-flat_map, All-range_with_len, IfSome-find, IsSome-find}
+use Rattle.star_lists.proofs.Elements.{In}
+use Rattle.star_lists.proofs.Inside.{in_map}
+use Rattle.gao_decoder.proofs.Finding.{in_flat_map, in_range_with_len, All-flat_map, All-range_with_len, IfSome-find, IsSome-find}
 
 -- k coefficients, each below p
 pub record HasCoefficientsBelow (p k : ℕ) (f : List ℕ) : Type 0 where
@@ -30,15 +32,15 @@ All-polynomials_below p (suc k) =
     (All-weaker (HasCoefficientsBelow p k) (λ f. HasCoefficientsBelow p (suc k) (c ∷ f)) (λ f is. record { count = ap suc is.count; below = All-cons (λ a. a < p) c f c_below is.below }) (polynomials_below p k) (All-polynomials_below p k)))
 
 -- and each such list is in the search
-pub IsIn-polynomials_below : (p k : ℕ) (f : List ℕ) → length f ≡ k → All (λ c. c < p) f → IsIn f (polynomials_below p k)
+pub in_polynomials_below : (p k : ℕ) (f : List ℕ) → length f ≡ k → All (λ c. c < p) f → In f (polynomials_below p k)
 unfolding polynomials_below
-IsIn-polynomials_below p zero [] count below = inl refl
-IsIn-polynomials_below p zero (c ∷ f) count below = absurd (omega arith)
-IsIn-polynomials_below p (suc k) [] count below = absurd (omega arith)
-IsIn-polynomials_below p (suc k) (c ∷ f) count below =
-    IsIn-flat_map (λ a. map (λ g. a ∷ g) (polynomials_below p k)) c (c ∷ f) (range_with_len 0 p)
-    (IsIn-range_with_len c 0 p (omega arith) (omega (arith, All-head (λ a. a < p) c f below)))
-    (IsIn-map (λ g. c ∷ g) f (polynomials_below p k) (IsIn-polynomials_below p k f (omega arith) (All-tail (λ a. a < p) c f below)))
+in_polynomials_below p zero [] count below = inl refl
+in_polynomials_below p zero (c ∷ f) count below = absurd (omega arith)
+in_polynomials_below p (suc k) [] count below = absurd (omega arith)
+in_polynomials_below p (suc k) (c ∷ f) count below =
+    in_flat_map (λ a. map (λ g. a ∷ g) (polynomials_below p k)) c (c ∷ f) (range_with_len 0 p)
+    (in_range_with_len c 0 p (omega arith) (omega (arith, All-head (λ a. a < p) c f below)))
+    (in_map (λ g. c ∷ g) f (polynomials_below p k) (in_polynomials_below p k f (omega arith) (All-tail (λ a. a < p) c f below)))
 
 -- the first k coefficients
 abbrev pub front_of : List ℕ → ℕ → List ℕ
@@ -52,10 +54,10 @@ front_of-same f k below i = elim (cases_lt i k) [
 ]
 
 -- a polynomial of degree below k is in the search by its first k coefficients
-pub IsIn-front_of : (f : List ℕ) (k : ℕ) → AreElements f → IsIn (front_of f k) (polynomials_below MODULUS k)
-IsIn-front_of f k elements =
+pub in_front_of : (f : List ℕ) (k : ℕ) → AreElements f → In (front_of f k) (polynomials_below MODULUS k)
+in_front_of f k elements =
     let count : length (front_of f k) ≡ k = length-map-range_with_len (coefficient_of f) 0 k in
-    IsIn-polynomials_below MODULUS k (front_of f k) count (All-from_get_or (λ c. c < MODULUS) (front_of f k) 0
+    in_polynomials_below MODULUS k (front_of f k) count (All-from_get_or (λ c. c < MODULUS) (front_of f k) 0
     (λ i within. subst (λ c. c < MODULUS) (sym (get_or-map-range_with_len (coefficient_of f) 0 k i i 0 (omega (arith, count)) (omega arith))) (AreElements-bounded f elements i)))
 
 -- a polynomial of the search has degree below k
@@ -74,7 +76,7 @@ found_is_decoded xs ys k =
 pub decoded_is_found : (f xs ys : List ℕ) (k : ℕ) → IsDecoded f xs ys k → IsSome (decoding_of xs ys k)
 unfolding decoding_of
 decoded_is_found f xs ys k d =
-    IsSome-find (is_decoded xs ys k) (front_of f k) (polynomials_below MODULUS k) (IsIn-front_of f k d.elements)
+    IsSome-find (is_decoded xs ys k) (front_of f k) (polynomials_below MODULUS k) (in_front_of f k d.elements)
     (le-leb _ _ (omega (arith, d.agrees, agreement_same (front_of f k) f xs ys (λ x. value-same (front_of f k) f x (front_of-same f k d.below)))))
 
 -- the search answers as b and out do, where they say whether and what is decoded

@@ -1,13 +1,16 @@
 -- Rows that stand equally often in two lists, whatever their numbers, give the same groups, and the same next rows equally often.
 use Rattle.std.proofs.Common.{◌≡◌, ℕ, zero, suc, Bool, true, false, ◌&&◌, ◌||◌, List, [], ◌∷◌, Option, inl, inr, refl, sym, ap, ◌∙◌, subst, map, filter, length}
-use Rattle.std.proofs.lemmas.Bool.{false≢true}
+use Rattle.std.proofs.lemmas.Bool.{false≢true, and_from}
 use Rattle.std.specs.List.{filter_map, list_any}
 use Rattle.std.specs.Option.{option_map}
 use Rattle.std.specs.Cmp.{both_ways, first_so, second_so}
 use Rattle.report_frame.specs.View.{head_of}
 use Rattle.shamir_limbs.specs.declared.share.Point.{Point}
-use Rattle.star_lists.proofs.Bools.{both_true}
 use Rattle.star_lists.proofs.Elements.{In, in_filter, from_filter, any_in}
+use Rattle.star_lists.specs.Elements.{EquallyOften}
+use Rattle.star_lists.proofs.Inside.{in_map, from_map}
+use Rattle.star_lists.proofs.Mapped.{filter_map-map}
+use Rattle.star_lists.proofs.Counted.{length-filter-map, often_filter_map, other_passes, turned_often}
 use Rattle.tag_groups.specs.Keys.{same_head}
 use Rattle.tag_groups.specs.Left.{point_of}
 use Rattle.layer_walk.specs.declared.outcome.Outcome.{Outcome}
@@ -17,11 +20,8 @@ use Rattle.layer_walk.specs.Outcomes.{outcome_of, outcome_at}
 use Rattle.layer_walk.specs.Members.{Next, next_at}
 use Rattle.layer_walk.specs.Members.Next.{Refused, Last, Inner}
 use Rattle.layer_walk.specs.Levels.{where_opened, stepped, next_row, next_rows, rows_from}
-use Rattle.layer_walk.specs.Laws.{EquallyOften, Report, report_of, reports, has_group, SameWalk}
-use Rattle.layer_walk.proofs.Gathered.{in_map, from_map, filter_map_agree}
-use Rattle.layer_walk.proofs.Mapped.{filter_map-map}
+use Rattle.layer_walk.specs.Laws.{Report, report_of, reports, has_group, SameWalk}
 use Rattle.layer_walk.proofs.PointFacts.{same_point, same_point_is, same_point_of, same_points_left}
-use Rattle.layer_walk.proofs.Counted.{length-filter-map, often_filter_map, other_passes, turned_often}
 
 -- a report of the row's group
 abbrev pub of_group : Row → Report → Bool
@@ -50,7 +50,7 @@ module _ (xs ys : List Row) (often : EquallyOften (reports xs) (reports ys)) whe
   point_over row p i =
       let m = from_map (λ (r : Row). point_of r.frame) p (members xs row) i in
       let f = from_filter (same_group row) xs m.0 m.1 in
-      let t : (of_group row (report_of m.0) && same_point p (point_of m.0.frame)) ≡ true = both_true _ _ f.1 (same_point_of p (point_of m.0.frame) (sym m.2)) in
+      let t : (of_group row (report_of m.0) && same_point p (point_of m.0.frame)) ≡ true = and_from _ _ f.1 (same_point_of p (point_of m.0.frame) (sym m.2)) in
       let o = other_row (λ r. of_group row r && same_point p (point_of r.frame)) m.0 f.0 t in
       let inside : In o.0 (members ys row) = in_filter (same_group row) ys o.0 o.1 (first_so (same_group row o.0) _ o.2) in
       let is : p ≡ point_of o.0.frame = same_point_is p (point_of o.0.frame) (second_so (same_group row o.0) _ o.2) in
@@ -106,7 +106,7 @@ next-alike e l xs ys often p =
     let agree : (r : Report) → next_report e l xs r ≡ next_report e l ys r = λ r. ap (λ o. option_map report_of (where_opened (λ value agree. stepped (row_with r) value (next_at e l (row_with r) value)) o)) (outcome-alike xs ys often e l (row_with r)) in
     ap (λ rs. length (filter p rs)) (next_reports e l xs)
     ∙ often_filter_map (next_report e l xs) (reports xs) (reports ys) often p
-    ∙ ap (λ rs. length (filter p rs)) (filter_map_agree (next_report e l xs) (next_report e l ys) agree (reports ys) ∙ sym (next_reports e l ys))
+    ∙ ap (λ rs. length (filter p rs)) ((λ i. filter_map (λ r. agree r i) (reports ys)) ∙ sym (next_reports e l ys))
 
 -- the law of one level
 pub same_walk : (e l : ℕ) (xs ys : List Row) → EquallyOften (reports xs) (reports ys) → SameWalk e l xs ys

@@ -1,16 +1,14 @@
 -- How often each refusal and each extra bytes come does not hang on the order of the records.
-use Rattle.std.proofs.Common.{◌≡◌, ℕ, zero, suc, ◌+◌, List, [], ◌∷◌, ◌++◌, Option, Some, None, Result, Ok, Err, refl, sym, ap, ◌∙◌, map, filter, length, length-append}
-use Rattle.std.specs.Cmp.{IsTotalOrder}
+use Rattle.std.proofs.Common.{◌≡◌, ℕ, ◌+◌, List, [], ◌∷◌, ◌++◌, Option, Some, None, Result, Ok, Err, refl, sym, ap, ◌∙◌, map, filter, length}
 use Rattle.std.specs.List.{cons_option, filter_map}
 use Rattle.std.specs.Option.{option_map}
-use Rattle.std.specs.declared.cmp.Ordering.{Ordering}
-use Rattle.std.specs.declared.cmp.Ordering.TheVariants.{Less, Equal, Greater}
 use Rattle.std.proofs.lemmas.List.{map-append}
-use Rattle.std.proofs.lemmas.List.Elements.{filter-append}
 use Rattle.report_frame.specs.Frame.{Fields}
 use Rattle.star_io.specs.declared.record.Record.{Record}
-use Rattle.star_lists.specs.Ascending.{by_order, put_before, in_order}
-use Rattle.star_lists.specs.Numbered.{numbered_from, joined_below}
+use Rattle.star_lists.specs.Numbered.{numbered_from}
+use Rattle.star_lists.specs.Elements.{EquallyOften}
+use Rattle.star_lists.proofs.Counted.{often_filter_map, often_append, often_below, ordered_often}
+use Rattle.star_lists.proofs.Mapped.{filter_map-map}
 use Rattle.layer_walk.specs.declared.outcome.Outcome.{Outcome}
 use Rattle.layer_walk.specs.declared.outcome.Outcome.TheVariants.{Opened, Few, NoLine, BadValue}
 use Rattle.layer_walk.specs.declared.refusal.Stage.TheVariants.{Outer}
@@ -22,56 +20,10 @@ use Rattle.layer_walk.specs.Members.{Next, next_at}
 use Rattle.layer_walk.specs.Members.Next.{Refused, Last, Inner}
 use Rattle.layer_walk.specs.Levels.{where_opened, rows_from, refusals_at, aux_at}
 use Rattle.layer_walk.specs.Reveal.{by_index, by_aux_index, first_frame, level_count, outer_of, outer_refusals, outer_rows, refusals_told, aux_told, reveal_of, some_of}
-use Rattle.layer_walk.specs.Laws.{EquallyOften, ExtrasAlike, Reason, RefuseAlike, Report, extra_of, first_frames, frame_in, reason_of, report_of, reports}
+use Rattle.layer_walk.specs.Laws.{ExtrasAlike, Reason, RefuseAlike, Report, extra_of, first_frames, frame_in, reason_of, report_of, reports}
 use Rattle.layer_walk.proofs.Alike.{outcome-alike, row_with, rows_from-alike}
 use Rattle.layer_walk.proofs.AlikeReveal.{outer_rows-alike}
-use Rattle.layer_walk.proofs.Counted.{length-filter-map, often_filter_map}
-use Rattle.layer_walk.proofs.Gathered.{filter_map_agree}
-use Rattle.layer_walk.proofs.Mapped.{filter_map-map}
-use Rattle.layer_walk.proofs.Order.{filter-in_order}
 use Rattle.layer_walk.proofs.Orders.{index_total, aux_index_total}
-
--- ---- lists
-
-often_append : {X : Type 0} (xs ys us vs : List X) → EquallyOften xs us → EquallyOften ys vs → EquallyOften (xs ++ ys) (us ++ vs)
-often_append xs ys us vs h k p =
-    ap length (filter-append p xs ys)
-    ∙ length-append (filter p xs) (filter p ys)
-    ∙ (λ i. h p i + k p i)
-    ∙ sym (length-append (filter p us) (filter p vs))
-    ∙ sym (ap length (filter-append p us vs))
-
-often_below : {X Y : Type 0} (t : X → Y) (f g : ℕ → List X) → ((l : ℕ) → EquallyOften (map t (f l)) (map t (g l))) → (n : ℕ) → EquallyOften (map t (joined_below f n)) (map t (joined_below g n))
-often_below t f g h zero p = refl
-often_below t f g h (suc n) p =
-    ap (λ l. length (filter p l)) (map-append t (joined_below f n) (f n))
-    ∙ often_append (map t (joined_below f n)) (map t (f n)) (map t (joined_below g n)) (map t (g n)) (often_below t f g h n) (h n) p
-    ∙ ap (λ l. length (filter p l)) (sym (map-append t (joined_below g n) (g n)))
-
-length-put : {X : Type 0} (c : X → X → Ordering) (x : X) (ys : List X) → length (put_before c x ys) ≡ suc (length ys)
-length-put c x [] = refl
-length-put c x (y ∷ ys) =
-    elim (c x y) as (λ r. length (by_order r (x ∷ y ∷ ys) (x ∷ y ∷ ys) (y ∷ put_before c x ys)) ≡ suc (suc (length ys))) [
-      | Less ↦ refl
-      | Equal ↦ refl
-      | Greater ↦ ap suc (length-put c x ys)
-    ]
-
-length-in_order : {X : Type 0} (c : X → X → Ordering) (xs : List X) → length (in_order c xs) ≡ length xs
-unfolding in_order
-length-in_order c [] = refl
-length-in_order c (x ∷ xs) = length-put c x (in_order c xs) ∙ ap suc (length-in_order c xs)
-
--- what is made of a list stands equally often in what is made of the list in order
-often_in_order : {X Y : Type 0} (c : X → X → Ordering) → IsTotalOrder c → (t : X → Y) (xs : List X) → EquallyOften (map t (in_order c xs)) (map t xs)
-often_in_order c total t xs p =
-    length-filter-map p t (in_order c xs)
-    ∙ ap length (filter-in_order c total (λ x. p (t x)) xs)
-    ∙ length-in_order c (filter (λ x. p (t x)) xs)
-    ∙ sym (length-filter-map p t xs)
-
-ordered_often : {X Y : Type 0} (c : X → X → Ordering) → IsTotalOrder c → (t : X → Y) (xs ys : List X) → EquallyOften (map t xs) (map t ys) → EquallyOften (map t (in_order c xs)) (map t (in_order c ys))
-ordered_often c total t xs ys h p = often_in_order c total t xs p ∙ h p ∙ sym (often_in_order c total t ys p)
 
 -- ---- what a level tells of rows, without their numbers
 
@@ -101,7 +53,7 @@ module _ {X Y : Type 0} (t : X → Y) (tell : ℕ → Row → Next → Option X)
       let agree : (r : Report) → told_report e l xs r ≡ told_report e l ys r = λ r. ap (λ o. option_map t (where_opened (λ value agree. tell l (row_with r) (next_at e l (row_with r) value)) o)) (outcome-alike xs ys often e l (row_with r)) in
       ap (λ rs. length (filter p rs)) (told_reports e l xs)
       ∙ often_filter_map (told_report e l xs) (reports xs) (reports ys) often p
-      ∙ ap (λ rs. length (filter p rs)) (filter_map_agree (told_report e l xs) (told_report e l ys) agree (reports ys) ∙ sym (told_reports e l ys))
+      ∙ ap (λ rs. length (filter p rs)) ((λ i. filter_map (λ r. agree r i) (reports ys)) ∙ sym (told_reports e l ys))
 
 -- ---- the refusals of levels
 

@@ -6,35 +6,28 @@ use Rattle.std.specs.List.{cons_option}
 use Rattle.report_frame.specs.Frame.{Fields}
 use Rattle.star_io.specs.declared.record.Record.{Record}
 use Rattle.star_lists.specs.Ascending.{in_order}
-use Rattle.star_lists.specs.Numbered.{numbered_from}
+use Rattle.star_lists.specs.Numbered.{numbered_from, joined_below}
 use Rattle.star_lists.proofs.Elements.{In}
 use Rattle.star_lists.proofs.FirstOnes.{apart_firsts, in_firsts}
 use Rattle.star_lists.proofs.Rising.{same_rising}
+use Rattle.star_lists.specs.Elements.{EquallyOften}
+use Rattle.star_lists.proofs.Inside.{in_filter_map, first_one_for, from_filter_map, in_either, in_left, in_right, from_in_order, in_in_order}
+use Rattle.star_lists.proofs.Counted.{length-filter-map, no_fewer, turned_often, equally_long}
 use Rattle.tag_groups.specs.Left.{point_of, points_left_of}
 use Rattle.layer_walk.specs.declared.outcome.Outcome.{Outcome}
 use Rattle.layer_walk.specs.declared.revealed.OpenedGroup.{OpenedGroup}
 use Rattle.layer_walk.specs.Rows.{Row, same_group, first_members}
-use Rattle.layer_walk.specs.Outcomes.{outcome_of, outcome_at}
+use Rattle.layer_walk.specs.Outcomes.{outcome_at}
 use Rattle.layer_walk.specs.Levels.{where_opened, rows_from, opened_row, opened_at, path_with, is_opened, is_few, is_no_line, is_bad_value, count_of, counts_of, counts_at}
 use Rattle.layer_walk.specs.Reveal.{first_frame, no_parent, row_of, some_of, outer_rows, by_path, level_count, groups_told, levels_told, reveal_of}
-use Rattle.layer_walk.specs.Laws.{EquallyOften, Report, report_of, reports, frame_in, first_frames, TellAlike}
-use Rattle.layer_walk.proofs.Gathered.{in_filter_map, first_one_for}
-use Rattle.layer_walk.proofs.Inside.{from_filter_map, in_either, in_left, in_right, from_in_order, in_in_order}
-use Rattle.layer_walk.proofs.Mapped.{joined_agree}
+use Rattle.layer_walk.specs.Laws.{Report, report_of, reports, frame_in, first_frames, TellAlike}
+use Rattle.layer_walk.proofs.NextRows.{same_outcome}
 use Rattle.layer_walk.proofs.Same.{one_group, itself, turned, joins, same_members}
-use Rattle.layer_walk.proofs.Counted.{length-filter-map, no_fewer, turned_often, equally_long}
-use Rattle.layer_walk.proofs.WholeReveal.{by_path_total, groups_rise}
+use Rattle.layer_walk.proofs.Orders.{path_total}
+use Rattle.layer_walk.proofs.WholeReveal.{groups_rise}
 use Rattle.layer_walk.proofs.Alike.{other_row, of_group, points-alike, outcome-alike, members-alike, rows_from-alike}
 
--- rows of one group have one outcome
-pub same_outcome : (e l : ℕ) (rows : List Row) (a b : Row) → same_group a b ≡ true → outcome_at e l rows a ≡ outcome_at e l rows b
-unfolding outcome_at
-same_outcome e l rows a b h =
-    let g = one_group a b h in
-    let m = same_members a b h rows in
-    λ i. outcome_of e l (g.parent i).check (g.head i) (points_left_of (map (λ (r : Row). point_of r.frame) (m i)))
-
--- and are told as one group
+-- rows of one group are told as one group
 pub same_opened : (e l : ℕ) (rows : List Row) (a b : Row) → same_group a b ≡ true → opened_row e l rows a ≡ opened_row e l rows b
 same_opened e l rows a b h =
     let g = one_group a b h in
@@ -125,8 +118,8 @@ told_alike_rows e rs qs often =
     λ g i. in_in_order by_path g (groups_told e xs level_count) (told_over e ys xs (turned_often (reports xs) (reports ys) often) level_count g (from_in_order by_path g (groups_told e ys level_count) i)) in
     record {
       rows = same_lengths xs ys often;
-      groups = same_rising by_path by_path_total (reveal_of e rs).groups (reveal_of e qs).groups (groups_rise e rs) (groups_rise e qs) over back;
-      levels = joined_agree (λ l. counts_at e l (rows_from e xs l)) (λ l. counts_at e l (rows_from e ys l)) (λ l. counts-alike (rows_from e xs l) (rows_from e ys l) (rows_from-alike e xs ys often l) e l) level_count;
+      groups = same_rising by_path path_total (reveal_of e rs).groups (reveal_of e qs).groups (groups_rise e rs) (groups_rise e qs) over back;
+      levels = λ i. joined_below (λ l. counts-alike (rows_from e xs l) (rows_from e ys l) (rows_from-alike e xs ys often l) e l i) level_count;
     }
 
 -- a frame of level 0 as a report

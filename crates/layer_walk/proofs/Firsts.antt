@@ -1,18 +1,18 @@
 -- The rows of level 0 and the refusals of the other records.
-use Rattle.std.proofs.Common.{◌≡◌, ℕ, suc, ◌+◌, ◌<◌, ◌≤◌, List, [], ◌∷◌, ◌++◌, Option, Result, Ok, Err, length, take, map, refl, sym, ap, ◌∙◌, subst, arith, length-append, zero-add, append-nil}
+use Rattle.std.proofs.Common.{◌≡◌, ℕ, suc, ◌+◌, ◌<◌, ◌≤◌, List, [], ◌∷◌, ◌++◌, Option, Result, Ok, Err, length, take, map, refl, sym, ap, ◌∙◌, subst, arith, length-append, append-nil}
 use Rattle.std.specs.List.{AllByRecursion, cons_option}
 use Rattle.std.specs.List.Sorted.{IsStrictlySortedBy}
 use Rattle.std.specs.Ordering.{nat_cmp}
 use Rattle.std.specs.Cmp.{nat_cmp_is}
 use Rattle.std.specs.declared.cmp.Ordering.TheVariants.{Less}
-use Rattle.std.proofs.lemmas.List.{length-map}
-use Rattle.std.proofs.lemmas.List.Elements.{filter_map-append, All-from_recursion, All-map}
+use Rattle.std.proofs.lemmas.List.{length-map, map-append}
+use Rattle.std.proofs.lemmas.List.Elements.{All-from_recursion, All-map}
 use Rattle.star_io.specs.declared.record.Record.{Record}
 use Rattle.star_io.specs.declared.record.TheConstants.{MAX_RECORDS}
 use Rattle.report_frame.specs.Frame.{Fields}
 use Rattle.star_lists.specs.Numbered.{numbered_from}
-use Rattle.star_lists.proofs.Elements.{map-append, filter_map_fewer}
-use Rattle.star_lists.proofs.Numbered.{numbered_push}
+use Rattle.star_lists.proofs.Elements.{filter_map_fewer}
+use Rattle.star_lists.proofs.Numbered.{given_push}
 use Rattle.tag_groups.specs.RowView.{RowView}
 use Rattle.layer_walk.specs.declared.level.Parent.{Parent}
 use Rattle.layer_walk.specs.declared.refusal.Why.{Why}
@@ -26,18 +26,13 @@ use Rattle.layer_walk.specs.Standing.{outermost, StandsFor, level_zero_of}
 
 -- ---- one more record
 
-some_push : {X Y : Type 0} (f : ℕ → X → Option Y) (xs : List X) (x : X) → some_of (numbered_from 0 f (xs ++ x ∷ [])) ≡ some_of (numbered_from 0 f xs) ++ cons_option (f (length xs) x) []
-some_push f xs x =
-    ap some_of (numbered_push 0 f xs x ∙ ap (λ n. numbered_from 0 f xs ++ f n x ∷ []) (zero-add (length xs)))
-    ∙ filter_map-append (λ o. o) (numbered_from 0 f xs) (f (length xs) x ∷ [])
-
 rows_push : (e : ℕ) (records : List Record) (item : Record) → outer_rows e (records ++ item ∷ []) ≡ outer_rows e records ++ cons_option (row_of (length records) (first_frame e item)) []
 unfolding outer_rows
-rows_push e records item = some_push (λ i r. row_of i (first_frame e r)) records item
+rows_push e records item = given_push (λ i r. row_of i (first_frame e r)) records item
 
 refusals_push : (e : ℕ) (records : List Record) (item : Record) → outer_refusals e (records ++ item ∷ []) ≡ outer_refusals e records ++ cons_option (outer_of (length records) (first_frame e item)) []
 unfolding outer_refusals
-refusals_push e records item = some_push (λ i r. outer_of i (first_frame e r)) records item
+refusals_push e records item = given_push (λ i r. outer_of i (first_frame e r)) records item
 
 -- the row or the refusal of one record
 row_alone : (i : ℕ) (f : Result Fields Why) (row : RowView) → first_row i f ≡ Ok row → (map outermost (cons_option (row_of i f) []) ≡ row ∷ []) × (cons_option (outer_of i f) [] ≡ [])
@@ -127,15 +122,12 @@ few_rows e records =
 pub few_views : (walk : WalkView) (records : List Record) → StandsFor walk records → length walk.rows ≤ walk.taken
 few_views walk records stands = omega (arith, ap length stands.rows, length-map (outer_rows walk.epoch records) outermost, few_rows walk.epoch records, stands.taken)
 
-less : (a b : ℕ) → a < b → nat_cmp a b ≡ Less
-less a b h = sym (nat_cmp_is a b Less h)
-
 above : (e i j : ℕ) (records : List Record) → j < i → AllByRecursion (λ (y : RowView). nat_cmp j y.index ≡ Less) (map outermost (some_of (numbered_from i (λ i r. row_of i (first_frame e r)) records)))
 above e i j [] h = tt
 above e i j (r ∷ rs) h =
     let rest = above e (i + 1) j rs (omega arith) in
     elim (first_frame e r) as (λ f. AllByRecursion (λ (y : RowView). nat_cmp j y.index ≡ Less) (map outermost (cons_option (row_of i f) (some_of (numbered_from (i + 1) (λ i r. row_of i (first_frame e r)) rs))))) [
-      | Ok frame ↦ (less j i h, rest)
+      | Ok frame ↦ (sym (nat_cmp_is j i Less h), rest)
       | Err why ↦ rest
     ]
 

@@ -18,6 +18,7 @@ use Rattle.report_frame.proofs.FrameLaws.{decoded_frame, in_range}
 use Rattle.adss_commit.specs.Derivation.{context_key}
 use Rattle.tag_groups.specs.Keys.{same_version}
 use Rattle.star_lists.proofs.Elements.{In, all_of}
+use Rattle.star_lists.proofs.Inside.{from_filter_map}
 use Rattle.layer_walk.specs.declared.keys.Keys.{Keys}
 use Rattle.layer_walk.specs.declared.refusal.Why.{Why}
 use Rattle.layer_walk.specs.declared.refusal.Why.TheVariants.{WrongEpoch, WrongLevel, WrongVersion, Seal, BodyKind, BodyTail}
@@ -27,7 +28,6 @@ use Rattle.layer_walk.specs.Members.Next.{Refused, Last, Inner}
 use Rattle.layer_walk.specs.Levels.{next_row, next_rows, rows_from}
 use Rattle.layer_walk.specs.Reveal.{first_frame, outer_rows, level_count}
 use Rattle.layer_walk.specs.Laws.{IsRowAt, IsByteRecord, AreByteRecords}
-use Rattle.layer_walk.proofs.Inside.{from_filter_map}
 use Rattle.layer_walk.proofs.BodyBytes.{AreBytes-body, AreBytes-plain}
 use Rattle.layer_walk.proofs.OuterRows.{outer_row}
 use Rattle.layer_walk.proofs.HeldRows.{next_from}

@@ -1,13 +1,13 @@
 -- What the members of groups hold, with one more group.
 use Rattle.std.proofs.Common.{◌≡◌, ℕ, ◌+◌, ◌≤◌, true, false, List, [], ◌∷◌, ◌++◌, length, map, refl, sym, ap, ◌∙◌, arith, append_assoc, append-nil}
 use Rattle.std.specs.Prelude.{if◌then◌else◌}
+use Rattle.star_lists.proofs.Mapped.{flat_map-push}
 use Rattle.tag_groups.specs.RowView.{RowView}
 use Rattle.layer_walk.specs.declared.group.GroupOut.{GroupOut}
 use Rattle.layer_walk.specs.declared.held.Held.{Held}
 use Rattle.layer_walk.specs.declared.outcome.Outcome.{Outcome}
 use Rattle.layer_walk.specs.Levels.{is_opened}
 use Rattle.layer_walk.specs.Kept.{adopt, next_number, kept_from, number_after, IsHeld, HoldsMore}
-use Rattle.layer_walk.proofs.MadeLists.{flat_map-push}
 
 -- the rows of these groups, and the number of the next parent
 pub record HasRows (outs : List GroupOut) (parent : ℕ) (rows : List RowView) : Type 0 where

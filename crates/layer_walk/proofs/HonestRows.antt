@@ -13,6 +13,7 @@ use Rattle.adss_commit.specs.declared.context.Context.{Context}
 use Rattle.adss_commit.specs.Derivation.{context_head}
 use Rattle.adss_commit.proofs.Honest.{own_key, own_value}
 use Rattle.star_lists.proofs.Elements.{In, from_filter}
+use Rattle.star_lists.proofs.Inside.{from_map}
 use Rattle.tag_groups.specs.Left.{point_of}
 use Rattle.tag_groups.proofs.Left.{from_left}
 use Rattle.tag_groups.proofs.LeftLaws.{distinct_left}
@@ -20,7 +21,6 @@ use Rattle.layer_walk.specs.declared.outcome.Outcome.TheVariants.{Opened, Few}
 use Rattle.layer_walk.specs.Rows.{Row, same_group, members, points_left}
 use Rattle.layer_walk.specs.Outcomes.{outcome_with, outcome_under, outcome_of, outcome_at}
 use Rattle.layer_walk.specs.Laws.{honest, IsHonest}
-use Rattle.layer_walk.proofs.Gathered.{from_map}
 
 honest_outcome : (c : Context) (points : List Point) → 1 ≤ c.k → AreElements (xs_of points) → AreDistinct (xs_of points) → c.k ≤ length points →
     length points + c.k ≤ 2 * honest c points →

@@ -1,6 +1,3 @@
-pub mod Inside
-pub mod Mapped
-pub mod Order
 pub mod OuterRows
 pub mod HeldRows
 pub mod RefusedOnce
@@ -13,17 +10,13 @@ pub mod Renamed
 pub mod TakenOut
 pub mod Members
 pub mod Opening
-pub mod Zips
-pub mod Gathered
 pub mod Same
 pub mod Outside
 pub mod HonestRows
-pub mod Counted
 pub mod PointFacts
 pub mod Alike
 pub mod AlikeReveal
 pub mod AlikeOrders
-pub mod MadeLists
 pub mod Parts
 pub mod Numbers
 pub mod Fits

@@ -6,14 +6,16 @@ use Rattle.std.specs.List.Sorted.{IsPermutation, IsSorted, IsStrictlySortedBy}
 use Rattle.std.specs.Option.{option_map}
 use Rattle.std.specs.Ordering.{nat_cmp, is_lt}
 use Rattle.std.specs.declared.cmp.Ordering.TheVariants.{Less}
-use Rattle.std.proofs.lemmas.List.{get_or-map, length-map}
+use Rattle.std.proofs.lemmas.List.{get_or-map, length-map, map-append, map-id}
 use Rattle.std.proofs.lemmas.List.Elements.{All-head, All-tail, All-filter, filter_passes}
 use Rattle.std.proofs.lemmas.List.Sorted.{IsPermutation-map}
+use Rattle.std.proofs.lemmas.Simd.{map-map}
+use Rattle.std.proofs.lemmas.List.Folds.{flat_map-map}
 use Rattle.report_frame.specs.Reading.{fields_from}
 use Rattle.adss_commit.specs.Derivation.{context_key}
 use Rattle.star_lists.specs.FirstOnes.{first_ones}
-use Rattle.star_lists.proofs.Elements.{map-append}
 use Rattle.star_lists.proofs.Places.{elements_at_places}
+use Rattle.star_lists.proofs.Mapped.{filter_map-within, map-filter_map, filter_map-none, All-first_ones}
 use Rattle.tag_groups.specs.RowView.{RowView}
 use Rattle.tag_groups.specs.GroupView.{GroupView}
 use Rattle.tag_groups.specs.Keys.{same_key}
@@ -38,7 +40,6 @@ use Rattle.layer_walk.specs.Levels.{where_opened, stepped, under, child_of, next
 use Rattle.layer_walk.specs.Outs.{IsOut, parent_at, group_members, group_points, group_check, group_keys, group_outcome, of_opened, of_group, inner_under, refusal_under, aux_under}
 use Rattle.layer_walk.specs.Made.{named_row, named, row_cmp, AreOuts, IsLevel, group_child, child_under, parents_from}
 use Rattle.layer_walk.specs.Kept.{adopt, next_number, kept_from}
-use Rattle.layer_walk.proofs.MadeLists.{filter_map-within, map-self, map-filter_map, filter_map-none, map-map, flat-map, All-first_ones}
 use Rattle.layer_walk.proofs.Numbers.{members_named, same_named}
 use Rattle.layer_walk.proofs.NextRows.{same_outcome, sorted_groups}
 
@@ -134,7 +135,7 @@ module _ (level : Level) (good : IsLevel level) (first : RowView) (inside : firs
         | Opened value agree ↦ λ o.
             map-map (named_row parents) (adopt n) (filter_map (inner_under (group_keys level group value)) mem)
             ∙ map-filter_map (under (parent_at parents n)) (inner_under (group_keys level group value)) mem
-            ∙ ap (filter_map (λ r. option_map (under (parent_at parents n)) (inner_under (group_keys level group value) r))) (sym (map-self mem))
+            ∙ ap (filter_map (λ r. option_map (under (parent_at parents n)) (inner_under (group_keys level group value) r))) (sym (map-id mem))
             ∙ filter_map-within IsMember (λ r. option_map (under (parent_at parents n)) (inner_under (group_keys level group value) r)) (λ r. r) (made_by stepped value)
             (λ r m. ap (λ p. option_map (under p) (inner_under (group_keys level group value) r)) (child value agree o ∙ member_child r m value)) mem all_members
         | Few ↦ λ o. refl
@@ -211,7 +212,7 @@ first_ones_named parents distinct (x ∷ xs) h =
 -- what is made group by group is made of the first members of the rows that the level stands for
 pub groups_of_named : {X : Type 0} (level : Level) → IsLevel level → (f : Row → Option X) → from_groups level f (first_ones same_key level.rows) ≡ flat_map (λ first. filter_map f (members (named level) first)) (first_members (named level))
 groups_of_named level good f =
-    sym (flat-map (λ first. filter_map f (members (named level) first)) (named_row level.parents) (first_ones same_key level.rows))
+    sym (flat_map-map (λ first. filter_map f (members (named level) first)) (named_row level.parents) (first_ones same_key level.rows))
     ∙ ap (flat_map (λ first. filter_map f (members (named level) first))) (sym (first_ones_named level.parents good.distinct level.rows good.parents))
 
 -- the rows ascend under their names too

@@ -1,25 +1,16 @@
 -- The rows at one more place, and what they hold.
-use Rattle.std.proofs.Common.{◌≡◌, ℕ, ◌+◌, ◌<◌, ◌≤◌, List, [], ◌∷◌, ◌++◌, Option, Some, sym, ap, ◌∙◌, length, take, get_or, arith}
+use Rattle.std.proofs.Common.{◌≡◌, ℕ, ◌+◌, ◌<◌, List, [], ◌∷◌, ◌++◌, Option, Some, sym, ap, ◌∙◌, length, take, get_or}
 use Rattle.std.specs.Prelude.{slice_get}
 use Rattle.std.specs.List.{filter_map, cons_option}
 use Rattle.std.proofs.lemmas.List.{take_more}
 use Rattle.std.proofs.lemmas.List.Elements.{filter_map-append}
 use Rattle.std.proofs.lemmas.Option.{slice_get-get_or}
-use Rattle.report_frame.specs.declared.limits.TheConstants.{MAX_FRAME_TWO}
-use Rattle.report_frame.specs.declared.version.Version.{Version}
-use Rattle.report_frame.specs.declared.version.Version.TheVariants.{One, Two}
-use Rattle.report_frame.specs.Versions.{max_frame}
 use Rattle.tag_groups.specs.RowView.{RowView}
 use Rattle.tag_groups.specs.Laws.{rows_at}
 use Rattle.layer_walk.specs.declared.keys.Keys.{Keys}
 use Rattle.layer_walk.specs.declared.member.Held.{Held}
 use Rattle.layer_walk.specs.Outs.{inner_under, refusal_under, aux_under}
 use Rattle.layer_walk.specs.Held.{HeldOf, HoldsMore}
-
--- no frame is longer than those of version 2
-pub max_frame_within : (v : Version) → max_frame v ≤ MAX_FRAME_TWO
-max_frame_within One = omega arith
-max_frame_within Two = omega arith
 
 -- the rows at one more place
 pub rows_more : (rows : List RowView) (places : List ℕ) (i : ℕ) (row : RowView) → i < length places → get_or places i 0 < length rows

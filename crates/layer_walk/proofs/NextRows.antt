@@ -1,60 +1,24 @@
 -- What the rows of a level make row by row is what they make group by group, sorted by the numbers of their records.
-use Rattle.std.proofs.Common.{◌≡◌, ℕ, true, cond, List, [], ◌∷◌, Option, Some, None, refl, sym, ◌∙◌, subst, map}
+use Rattle.std.proofs.Common.{◌≡◌, ℕ, true, List, [], ◌∷◌, Option, Some, None, refl, sym, ◌∙◌, subst, map}
 use Rattle.std.specs.List.{flat_map, filter_map, cons_option, AllByRecursion}
 use Rattle.std.specs.List.Sorted.{IsPermutation, IsSorted, IsStrictlySortedBy}
-use Rattle.std.specs.Cmp.{both_ways, first_so, second_so, nat_cmp_total}
+use Rattle.std.specs.Cmp.{both_ways, nat_cmp_total}
 use Rattle.std.specs.Ordering.{nat_cmp}
 use Rattle.std.specs.declared.cmp.Ordering.{Ordering}
 use Rattle.std.specs.declared.cmp.Ordering.TheVariants.{Less}
 use Rattle.std.proofs.lemmas.Cmp.{on_total}
 use Rattle.std.proofs.lemmas.List.Sorted.{IsPermutation-trans}
-use Rattle.report_frame.specs.View.{head_of}
-use Rattle.star_lists.proofs.Bools.{both_true}
 use Rattle.star_lists.proofs.Rising.{sorted_is}
-use Rattle.tag_groups.specs.Keys.{same_head}
 use Rattle.tag_groups.specs.Left.{point_of, points_left_of}
-use Rattle.tag_groups.proofs.Keys.{same_head_is, same_head_self}
-use Rattle.layer_walk.specs.Rows.{Row, same_group, same_parent, members, first_members}
+use Rattle.layer_walk.specs.Rows.{Row, same_group, members, first_members}
 use Rattle.layer_walk.specs.Outcomes.{outcome_of, outcome_at}
-use Rattle.layer_walk.proofs.Numbers.{same_parent_is, same_parent_of}
+use Rattle.layer_walk.proofs.Same.{one_group, itself, turned, alike, same_members}
 use Rattle.layer_walk.proofs.Parts.{groups_joined}
-
--- what rows of one group share
-pub record OneGroup (a b : Row) : Type 0 where
-  pub parent : a.parent ≡ b.parent
-  pub head : head_of a.frame ≡ head_of b.frame
-
-pub one_group : (a b : Row) → same_group a b ≡ true → OneGroup a b
-one_group a b h = record {
-  parent = same_parent_is a.parent b.parent (first_so (same_parent a.parent b.parent) _ h);
-  head = same_head_is (head_of a.frame) (head_of b.frame) (second_so (same_parent a.parent b.parent) _ h);
-}
-
-pub in_one_group : (a b : Row) → OneGroup a b → same_group a b ≡ true
-in_one_group a b g =
-    both_true _ _ (same_parent_of a.parent b.parent g.parent) (subst (λ h. same_head (head_of a.frame) h ≡ true) g.head (same_head_self (head_of a.frame)))
-
-itself : (a : Row) → same_group a a ≡ true
-itself a = in_one_group a a (record { parent = refl; head = refl })
-
-turned : (a b : Row) → same_group a b ≡ true → same_group b a ≡ true
-turned a b h = let g = one_group a b h in in_one_group b a (record { parent = sym g.parent; head = sym g.head })
-
-joins : (a b d : Row) → same_group a b ≡ true → same_group b d ≡ true → same_group a d ≡ true
-joins a b d h k = let g = one_group a b h in let i = one_group b d k in in_one_group a d (record { parent = g.parent ∙ i.parent; head = g.head ∙ i.head })
 
 turns : (a b : Row) → same_group a b ≡ same_group b a
 turns a b = both_ways (same_group a b) (same_group b a) (turned a b) (turned b a)
 
-alike : (a b d : Row) → same_group a b ≡ true → same_group a d ≡ same_group b d
-alike a b d h = both_ways (same_group a d) (same_group b d) (λ k. joins b a d (turned a b h) k) (λ k. joins a b d h k)
-
--- rows of one group have the same members
-pub same_members : (a b : Row) → same_group a b ≡ true → (rows : List Row) → members rows a ≡ members rows b
-same_members a b h [] = refl
-same_members a b h (r ∷ rs) = λ i. cond (alike a b r h i) (r ∷ same_members a b h rs i) (same_members a b h rs i)
-
--- and the same outcome
+-- rows of one group have the same outcome
 pub same_outcome : (e l : ℕ) (rows : List Row) (a b : Row) → same_group a b ≡ true → outcome_at e l rows a ≡ outcome_at e l rows b
 unfolding outcome_at
 same_outcome e l rows a b h =

@@ -1,20 +1,19 @@
 -- The rows and the refusals that records give: one more record, and where a row of level 0 comes from.
-use Rattle.std.proofs.Common.{◌≡◌, ℕ, ◌+◌, List, [], ◌∷◌, ◌++◌, Option, Some, None, Result, Ok, Err, refl, sym, ap, ◌∙◌, length, arith}
+use Rattle.std.proofs.Common.{◌≡◌, ℕ, ◌+◌, List, [], ◌∷◌, ◌++◌, Option, Some, None, Result, Ok, Err, refl, sym, ap, ◌∙◌, length}
 use Rattle.std.specs.List.{cons_option}
-use Rattle.std.proofs.lemmas.List.Elements.{filter_map-append}
 use Rattle.std.proofs.lemmas.Option.{same_Some, none-some}
 use Rattle.star_io.specs.declared.record.Record.{Record}
 use Rattle.report_frame.specs.Frame.{Fields}
 use Rattle.star_lists.specs.Numbered.{numbered_from}
 use Rattle.star_lists.proofs.Elements.{In}
-use Rattle.star_lists.proofs.Numbered.{numbered_push}
+use Rattle.star_lists.proofs.Numbered.{given_push}
+use Rattle.star_lists.proofs.Inside.{from_filter_map, from_numbered}
 use Rattle.layer_walk.specs.declared.refusal.Refusal.{Refusal}
 use Rattle.layer_walk.specs.declared.refusal.Stage.TheVariants.{Outer}
 use Rattle.layer_walk.specs.declared.refusal.Why.{Why}
 use Rattle.layer_walk.specs.Rows.{Row}
 use Rattle.layer_walk.specs.Reveal.{first_frame, no_parent, row_of, outer_of, some_of, outer_rows, outer_refusals}
 use Rattle.layer_walk.specs.Laws.{one_or_none}
-use Rattle.layer_walk.proofs.Inside.{from_filter_map, from_numbered}
 
 -- what record i gives as a row, and as a refusal
 abbrev pub numbered_row : ℕ → ℕ → Record → Option Row
@@ -31,11 +30,7 @@ as_list (Some x) = refl
 
 -- what is there, where one more item has the next number
 some_more : {X Y : Type 0} (f : ℕ → X → Option Y) (xs : List X) (x : X) → some_of (numbered_from 0 f (xs ++ x ∷ [])) ≡ some_of (numbered_from 0 f xs) ++ one_or_none (f (length xs) x)
-some_more f xs x =
-    ap some_of (numbered_push 0 f xs x)
-    ∙ filter_map-append (λ o. o) (numbered_from 0 f xs) (f (0 + length xs) x ∷ [])
-    ∙ ap (λ n. some_of (numbered_from 0 f xs) ++ cons_option (f n x) []) {x = 0 + length xs} {y = length xs} (omega arith)
-    ∙ ap (λ l. some_of (numbered_from 0 f xs) ++ l) (as_list (f (length xs) x))
+some_more f xs x = given_push f xs x ∙ ap (λ l. some_of (numbered_from 0 f xs) ++ l) (as_list (f (length xs) x))
 
 pub rows_more : (e : ℕ) (records : List Record) (r : Record) → outer_rows e (records ++ r ∷ []) ≡ outer_rows e records ++ one_or_none (row_of (length records) (first_frame e r))
 unfolding outer_rows

@@ -1,14 +1,15 @@
 -- Groups don't look at the nonce, body and seal of a frame.
 use Rattle.std.proofs.Common.{◌≡◌, ℕ, List, ◌∷◌, ◌++◌, Some, refl, sym, ap, ◌∙◌, map}
+use Rattle.std.proofs.lemmas.List.{map-append}
+use Rattle.std.proofs.lemmas.Simd.{map-map}
 use Rattle.report_frame.specs.View.{head_of}
-use Rattle.star_lists.proofs.Elements.{map-append}
+use Rattle.star_lists.proofs.Mapped.{filter-map, first_ones-map}
 use Rattle.tag_groups.specs.Left.{point_of, points_left_of}
 use Rattle.layer_walk.specs.Rows.{Row, same_group, members, first_members, points_left}
 use Rattle.layer_walk.specs.Outcomes.{outcome_of, outcome_at}
 use Rattle.layer_walk.specs.Members.{next_at}
 use Rattle.layer_walk.specs.Levels.{where_opened}
 use Rattle.layer_walk.specs.Laws.{outside_of, key_of, group_keys, member_numbers, SameGroups}
-use Rattle.layer_walk.proofs.Mapped.{filter-map, map-map, first_ones-map}
 
 members-outside : (rows : List Row) (row : Row) → members (map outside_of rows) row ≡ map outside_of (members rows row)
 members-outside rows row = filter-map (same_group row) (same_group row) outside_of (λ x. refl) rows
@@ -16,16 +17,16 @@ members-outside rows row = filter-map (same_group row) (same_group row) outside_
 keys-outside : (rows : List Row) → group_keys (map outside_of rows) ≡ group_keys rows
 keys-outside rows =
     ap (map key_of) (first_ones-map same_group same_group outside_of (λ a b. refl) rows)
-    ∙ map-map key_of outside_of key_of (λ x. refl) (first_members rows)
+    ∙ map-map key_of outside_of (first_members rows)
 
 numbers-outside : (rows : List Row) (row : Row) → member_numbers (map outside_of rows) row ≡ member_numbers rows row
 numbers-outside rows row =
-    ap (map (λ (r : Row). r.index)) (members-outside rows row) ∙ map-map (λ (r : Row). r.index) outside_of (λ (r : Row). r.index) (λ x. refl) (members rows row)
+    ap (map (λ (r : Row). r.index)) (members-outside rows row) ∙ map-map (λ (r : Row). r.index) outside_of (members rows row)
 
 points-outside : (rows : List Row) (row : Row) → points_left (map outside_of rows) row ≡ points_left rows row
 points-outside rows row =
     ap (λ group. points_left_of (map (λ (r : Row). point_of r.frame) group)) (members-outside rows row)
-    ∙ ap points_left_of (map-map (λ (r : Row). point_of r.frame) outside_of (λ (r : Row). point_of r.frame) (λ x. refl) (members rows row))
+    ∙ ap points_left_of (map-map (λ (r : Row). point_of r.frame) outside_of (members rows row))
 
 -- lists of rows that are equal but for nonces, bodies and seals
 same_outside : (e l : ℕ) (one other : List Row) → map outside_of one ≡ map outside_of other → SameGroups e l one other

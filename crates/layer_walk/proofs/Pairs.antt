@@ -6,13 +6,13 @@ use Rattle.report_frame.specs.declared.version.Version.TheVariants.{One}
 use Rattle.layer_walk.specs.declared.outcome.Outcome.{Outcome}
 use Rattle.layer_walk.specs.declared.outcome.Outcome.TheVariants.{Opened, Few, NoLine, BadValue}
 use Rattle.std.proofs.lemmas.List.{length-take-le, take_all}
+use Rattle.star_lists.proofs.Mapped.{take-step}
 use Rattle.tag_groups.specs.GroupView.{GroupView}
 use Rattle.layer_walk.specs.declared.group.GroupOut.{GroupOut}
 use Rattle.layer_walk.specs.declared.level.Level.{Level}
 use Rattle.layer_walk.specs.declared.level.Parent.{Parent}
 use Rattle.layer_walk.specs.Made.{child_under, parents_from}
 use Rattle.layer_walk.specs.Told.{told_under, told_group, told_groups}
-use Rattle.layer_walk.proofs.MadeLists.{take-step}
 
 -- lists that agree pair by pair are of one length
 pub zip_lengths : {A B : Type 0} (R : A → B → Type 0) (xs : List A) (ys : List B) → AllZip R xs ys → length ys ≡ length xs

@@ -3,8 +3,8 @@ use Rattle.std.proofs.Common.{◌≡◌, Bool, true, ◌&&◌, List, ap, eqb, eq
 use Rattle.std.specs.Str.{bytes_eq}
 use Rattle.std.specs.Cmp.{first_so, second_so}
 use Rattle.std.specs.Cmp.Lexicographic.{bytes_decides}
+use Rattle.std.proofs.lemmas.Bool.{and_from}
 use Rattle.shamir_limbs.specs.declared.share.Point.{Point}
-use Rattle.star_lists.proofs.Bools.{both_true}
 use Rattle.star_lists.proofs.Elements.{In, in_from_Contains, Contains-from_in}
 use Rattle.tag_groups.specs.Left.{points_left_of}
 use Rattle.tag_groups.proofs.LeftLaws.{same_left}
@@ -20,7 +20,7 @@ same_point_is p q h =
     λ i. record { x = x i; y = y i }
 
 pub same_point_of : (p q : Point) → p ≡ q → same_point p q ≡ true
-same_point_of p q e = both_true _ _ (eq-eqb p.x q.x (ap (λ (s : Point). s.x) e)) ((bytes_decides p.y q.y).1 (ap (λ (s : Point). s.y) e))
+same_point_of p q e = and_from _ _ (eq-eqb p.x q.x (ap (λ (s : Point). s.x) e)) ((bytes_decides p.y q.y).1 (ap (λ (s : Point). s.y) e))
 
 -- lists with the same points leave the same points
 pub same_points_left : (xs ys : List Point) → ((p : Point) → In p xs → In p ys) → ((p : Point) → In p ys → In p xs) → points_left_of xs ≡ points_left_of ys

@@ -3,11 +3,13 @@
 use Rattle.std.proofs.Common.{◌≡◌, ◌≢◌, ℕ, zero, suc, ◌+◌, ◌<◌, ◌≤◌, List, [], ◌∷◌, ◌++◌, Option, Some, None, Ok, Err, inl, inr, refl, sym, ap, ◌∙◌, subst, arith}
 use Rattle.std.specs.List.{filter_map, cons_option}
 use Rattle.std.specs.List.Sorted.{IsStrictlySortedBy}
-use Rattle.std.specs.Ordering.{nat_cmp}
 use Rattle.std.specs.declared.cmp.Ordering.TheVariants.{Less}
 use Rattle.star_io.specs.declared.record.Record.{Record}
+use Rattle.std.specs.Cmp.{nat_cmp_is}
 use Rattle.star_lists.specs.Numbered.{numbered_from, joined_below}
 use Rattle.star_lists.proofs.Elements.{In, Pairwise, all_of, of_all}
+use Rattle.star_lists.proofs.Inside.{from_filter_map, in_either, pairwise_append}
+use Rattle.star_lists.proofs.InOrder.{numbers_rise}
 use Rattle.layer_walk.specs.declared.auxiliary.Aux.{Aux}
 use Rattle.layer_walk.specs.declared.refusal.Refusal.{Refusal}
 use Rattle.layer_walk.specs.Rows.{Row}
@@ -15,8 +17,6 @@ use Rattle.layer_walk.specs.Members.Next.{Refused, Last, Inner}
 use Rattle.layer_walk.specs.Levels.{next_row, next_rows, rows_from, refused_row, refusals_at, aux_row, aux_at}
 use Rattle.layer_walk.specs.Reveal.{first_frame, row_of, outer_of, some_of, outer_rows, outer_refusals, by_index, by_aux_index, level_count, refusals_told, aux_told, reveal_of}
 use Rattle.layer_walk.specs.Laws.{by_number}
-use Rattle.layer_walk.proofs.Inside.{from_filter_map, in_either, pairwise_append}
-use Rattle.layer_walk.proofs.Order.{numbers_rise}
 use Rattle.layer_walk.proofs.OuterRows.{numbered_row, numbered_refusal, from_row, from_refusal}
 use Rattle.layer_walk.proofs.HeldRows.{holds_one, next_from, refused_from, aux_from}
 
@@ -241,13 +241,10 @@ aux_rise e records = numbers_rise aux_number (aux_told e (outer_rows e records) 
 
 -- ---- rows
 
-less_of : (a b : ℕ) → a < b → nat_cmp a b ≡ Less
-less_of a b lt = grind arith
-
 sorted_rows : (rows : List Row) → Rise row_number rows → IsStrictlySortedBy by_number rows
 unfolding IsStrictlySortedBy
 sorted_rows [] h = tt
-sorted_rows (r ∷ rows) h = (all_of (λ w. by_number r w ≡ Less) rows (λ w i. less_of r.index w.index (of_all (λ (w : Row). r.index < w.index) rows h.0 w i)), sorted_rows rows h.1)
+sorted_rows (r ∷ rows) h = (all_of (λ w. by_number r w ≡ Less) rows (λ w i. sym (nat_cmp_is r.index w.index Less (of_all (λ (w : Row). r.index < w.index) rows h.0 w i))), sorted_rows rows h.1)
 
 pub levels_rise : (e : ℕ) (records : List Record) (l : ℕ) → IsStrictlySortedBy by_number (rows_from e (outer_rows e records) l)
 levels_rise e records l = sorted_rows (rows_from e (outer_rows e records) l) (rows_rise e records l)

@@ -2,8 +2,12 @@
 use Rattle.std.proofs.Common.{◌≡◌, ℕ, zero, suc, List, [], ◌∷◌, Option, Some, refl, ap, ◌∙◌, map, length}
 use Rattle.std.specs.List.{filter_map}
 use Rattle.std.specs.Option.{option_map}
-use Rattle.std.proofs.lemmas.List.{length-map}
+use Rattle.std.proofs.lemmas.List.{length-map, map-id}
+use Rattle.std.proofs.lemmas.Simd.{map-map}
 use Rattle.report_frame.specs.View.{head_of}
+use Rattle.star_lists.specs.Numbered.{joined_below}
+use Rattle.star_lists.proofs.Mapped.{filter-map, filter_map-map, first_ones-map}
+use Rattle.star_lists.proofs.Numbered.{joined_map}
 use Rattle.tag_groups.specs.Left.{point_of, points_left_of}
 use Rattle.layer_walk.specs.declared.outcome.Outcome.{Outcome}
 use Rattle.layer_walk.specs.declared.outcome.Outcome.TheVariants.{Opened, Few, NoLine, BadValue}
@@ -15,7 +19,6 @@ use Rattle.layer_walk.specs.Members.Next.{Refused, Last, Inner}
 use Rattle.layer_walk.specs.Bodies.{refusal_in, extra_bytes, aux_in}
 use Rattle.layer_walk.specs.Levels.{path_with, where_opened, stepped, next_row, next_rows, rows_from, refusals_at, aux_at, opened_row, opened_at, counts_of, counts_at}
 use Rattle.layer_walk.specs.Reveal.{groups_told, refusals_told, aux_told, levels_told}
-use Rattle.layer_walk.proofs.Mapped.{filter-map, map-map, map-same, filter_map-map, first_ones-map, joined_agree, joined_map}
 use Rattle.layer_walk.proofs.Renumbered.{renamed, renamed_refusal, renamed_aux}
 
 module _ (f : ℕ → ℕ) where
@@ -25,7 +28,7 @@ module _ (f : ℕ → ℕ) where
   points-renamed : (rows : List Row) (row : Row) → points_left (map (renamed f) rows) (renamed f row) ≡ points_left rows row
   points-renamed rows row =
       ap (λ group. points_left_of (map (λ (r : Row). point_of r.frame) group)) (members-renamed rows row)
-      ∙ ap points_left_of (map-map (λ (r : Row). point_of r.frame) (renamed f) (λ (r : Row). point_of r.frame) (λ x. refl) (members rows row))
+      ∙ ap points_left_of (map-map (λ (r : Row). point_of r.frame) (renamed f) (members rows row))
 
   outcome-renamed : (e l : ℕ) (rows : List Row) (row : Row) → outcome_at e l (map (renamed f) rows) (renamed f row) ≡ outcome_at e l rows row
   unfolding outcome_at
@@ -89,13 +92,13 @@ module _ (f : ℕ → ℕ) where
   opened_at-renamed e l rows =
       ap (filter_map (opened_row e l (map (renamed f) rows))) (first_ones-map same_group same_group (renamed f) (λ a b. refl) rows)
       ∙ filter_map-map (opened_row e l (map (renamed f) rows)) (opened_row e l rows) (renamed f) (λ g. g) (opened_row-renamed e l rows) (first_members rows)
-      ∙ map-same (λ g. g) (λ x. refl) (filter_map (opened_row e l rows) (first_members rows))
+      ∙ map-id (filter_map (opened_row e l rows) (first_members rows))
 
   counts_at-renamed : (e l : ℕ) (rows : List Row) → counts_at e l (map (renamed f) rows) ≡ counts_at e l rows
   unfolding counts_at
   counts_at-renamed e l rows =
       ap counts_of (ap (map (outcome_at e l (map (renamed f) rows))) (first_ones-map same_group same_group (renamed f) (λ a b. refl) rows)
-      ∙ map-map (outcome_at e l (map (renamed f) rows)) (renamed f) (outcome_at e l rows) (outcome-renamed e l rows) (first_members rows))
+      ∙ map-map (outcome_at e l (map (renamed f) rows)) (renamed f) (first_members rows) ∙ (λ i. map (λ r. outcome-renamed e l rows r i) (first_members rows)))
 
   refused-renamed : (l i : ℕ) (n : Next) → refusal_in l (f i) n ≡ option_map (renamed_refusal f) (refusal_in l i n)
   refused-renamed l i (Refused why) = refl
@@ -126,14 +129,12 @@ module _ (f : ℕ → ℕ) where
   pub groups_told-renamed : (e : ℕ) (rows : List Row) (n : ℕ) → groups_told e (map (renamed f) rows) n ≡ groups_told e rows n
   unfolding groups_told
   groups_told-renamed e rows n =
-      joined_agree (λ l. opened_at e l (rows_from e (map (renamed f) rows) l)) (λ l. opened_at e l (rows_from e rows l))
-      (λ l. ap (opened_at e l) (rows_from-renamed e rows l) ∙ opened_at-renamed e l (rows_from e rows l)) n
+      λ i. joined_below (λ l. (ap (opened_at e l) (rows_from-renamed e rows l) ∙ opened_at-renamed e l (rows_from e rows l)) i) n
 
   pub levels_told-renamed : (e : ℕ) (rows : List Row) (n : ℕ) → levels_told e (map (renamed f) rows) n ≡ levels_told e rows n
   unfolding levels_told
   levels_told-renamed e rows n =
-      joined_agree (λ l. counts_at e l (rows_from e (map (renamed f) rows) l)) (λ l. counts_at e l (rows_from e rows l))
-      (λ l. ap (counts_at e l) (rows_from-renamed e rows l) ∙ counts_at-renamed e l (rows_from e rows l)) n
+      λ i. joined_below (λ l. (ap (counts_at e l) (rows_from-renamed e rows l) ∙ counts_at-renamed e l (rows_from e rows l)) i) n
 
   pub refusals_told-renamed : (e : ℕ) (rows : List Row) (n : ℕ) → refusals_told e (map (renamed f) rows) n ≡ map (renamed_refusal f) (refusals_told e rows n)
   unfolding refusals_told

@@ -5,9 +5,10 @@ use Rattle.std.specs.List.{cons_option}
 use Rattle.std.specs.Option.{option_map}
 use Rattle.std.proofs.lemmas.Bool.{cases_lt}
 use Rattle.std.proofs.lemmas.List.Elements.{filter_map-append}
+use Rattle.std.proofs.lemmas.List.{map-append}
 use Rattle.star_io.specs.declared.record.Record.{Record}
 use Rattle.star_lists.specs.Numbered.{numbered_from}
-use Rattle.star_lists.proofs.Elements.{map-append}
+use Rattle.star_lists.proofs.Numbered.{numbered-append}
 use Rattle.layer_walk.specs.declared.auxiliary.Aux.{Aux}
 use Rattle.layer_walk.specs.declared.refusal.Refusal.{Refusal}
 use Rattle.layer_walk.specs.declared.refusal.Stage.TheVariants.{Outer}
@@ -15,7 +16,6 @@ use Rattle.layer_walk.specs.declared.refusal.Why.{Why}
 use Rattle.layer_walk.specs.Rows.{Row}
 use Rattle.layer_walk.specs.Reveal.{first_frame, row_of, outer_of, some_of, outer_rows, outer_refusals}
 use Rattle.layer_walk.specs.Laws.{lowered}
-use Rattle.layer_walk.proofs.Mapped.{numbered-append}
 use Rattle.layer_walk.proofs.OuterRows.{numbered_row, numbered_refusal}
 
 -- the numbers from i on, one higher

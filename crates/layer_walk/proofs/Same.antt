@@ -1,31 +1,19 @@
 -- When two rows stand in one group.
 use Rattle.std.proofs.Common.{◌≡◌, true, cond, ◌&&◌, List, [], ◌∷◌, refl, sym, ap, ◌∙◌, subst, eqb, eqb-true, eq-eqb}
-use Rattle.std.proofs.lemmas.Bool.{false≢true}
+use Rattle.std.proofs.lemmas.Bool.{and_from}
 use Rattle.std.specs.Str.{bytes_eq}
 use Rattle.std.specs.Cmp.{both_ways, first_so, second_so}
 use Rattle.std.specs.Cmp.Lexicographic.{pointwise, pointwise_decides, bytes_decides}
 use Rattle.report_frame.specs.declared.version.Version.{Version}
-use Rattle.report_frame.specs.declared.version.Version.TheVariants.{One, Two}
 use Rattle.report_frame.specs.View.{head_of}
-use Rattle.star_lists.proofs.Bools.{both_true}
 use Rattle.tag_groups.specs.Keys.{same_version, same_head}
-use Rattle.tag_groups.proofs.Keys.{same_head_is, same_head_self}
+use Rattle.tag_groups.proofs.Keys.{same_version_is, same_version_self, same_head_is, same_head_self}
 use Rattle.layer_walk.specs.declared.path.Step.{Step}
 use Rattle.layer_walk.specs.declared.level.Parent.{Parent}
 use Rattle.layer_walk.specs.Rows.{Row, same_step, same_parent, same_group, members}
 
 version_decides : (a b : Version) → (same_version a b ≡ true → a ≡ b) × (a ≡ b → same_version a b ≡ true)
-version_decides a b = (sound a b, λ e. subst (λ v. same_version a v ≡ true) e (itself a))
-  where
-    sound : (a b : Version) → same_version a b ≡ true → a ≡ b
-    sound One One h = refl
-    sound One Two h = absurd (false≢true h)
-    sound Two One h = absurd (false≢true h)
-    sound Two Two h = refl
-
-    itself : (a : Version) → same_version a a ≡ true
-    itself One = refl
-    itself Two = refl
+version_decides a b = (same_version_is a b, λ e. subst (λ v. same_version a v ≡ true) e (same_version_self a))
 
 step_decides : (a b : Step) → (same_step a b ≡ true → a ≡ b) × (a ≡ b → same_step a b ≡ true)
 step_decides a b = (
@@ -36,8 +24,8 @@ step_decides a b = (
       let version : a.version ≡ b.version = (version_decides a.version b.version).0 (second_so (eqb a.k b.k) _ rest) in
       λ i. record { value = value i; k = k i; version = version i }),
   (λ e.
-      both_true _ _ ((bytes_decides a.value b.value).1 (ap (λ (s : Step). s.value) e))
-      (both_true _ _ (eq-eqb a.k b.k (ap (λ (s : Step). s.k) e)) ((version_decides a.version b.version).1 (ap (λ (s : Step). s.version) e)))),
+      and_from _ _ ((bytes_decides a.value b.value).1 (ap (λ (s : Step). s.value) e))
+      (and_from _ _ (eq-eqb a.k b.k (ap (λ (s : Step). s.k) e)) ((version_decides a.version b.version).1 (ap (λ (s : Step). s.version) e)))),
 )
 
 -- the test on paths tells them apart
@@ -51,7 +39,7 @@ parent_decides a b = (
       let path : a.path ≡ b.path = (paths_decide a.path b.path).0 (first_so (pointwise same_step a.path b.path) _ h) in
       let check : a.check ≡ b.check = (bytes_decides a.check b.check).0 (second_so (pointwise same_step a.path b.path) _ h) in
       λ i. record { path = path i; check = check i }),
-  (λ e. both_true _ _ ((paths_decide a.path b.path).1 (ap (λ (p : Parent). p.path) e)) ((bytes_decides a.check b.check).1 (ap (λ (p : Parent). p.check) e))),
+  (λ e. and_from _ _ ((paths_decide a.path b.path).1 (ap (λ (p : Parent). p.path) e)) ((bytes_decides a.check b.check).1 (ap (λ (p : Parent). p.check) e))),
 )
 
 -- what rows of one group share
@@ -68,7 +56,7 @@ one_group a b h = record {
 
 pub in_one_group : (a b : Row) → OneGroup a b → same_group a b ≡ true
 in_one_group a b g =
-    both_true _ _ ((parent_decides a.parent b.parent).1 g.parent) (subst (λ h. same_head (head_of a.frame) h ≡ true) g.head (same_head_self (head_of a.frame)))
+    and_from _ _ ((parent_decides a.parent b.parent).1 g.parent) (subst (λ h. same_head (head_of a.frame) h ≡ true) g.head (same_head_self (head_of a.frame)))
 
 -- to be of one group is an equivalence
 pub itself : (a : Row) → same_group a a ≡ true

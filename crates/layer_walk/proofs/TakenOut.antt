@@ -1,13 +1,18 @@
 -- A record that is refused in the outer stage, taken out.
-use Rattle.std.proofs.Common.{◌≡◌, ℕ, zero, suc, ◌+◌, ◌<◌, Bool, true, false, cond, not, List, [], ◌∷◌, ◌++◌, inl, inr, Err, refl, sym, ap, ◌∙◌, subst, map, filter, length, take, drop, arith, eqb, eqb-true, eq-eqb, length-append, length-take}
+use Rattle.std.proofs.Common.{◌≡◌, ℕ, zero, suc, ◌+◌, ◌<◌, Bool, true, cond, not, List, [], ◌∷◌, ◌++◌, inl, inr, Err, refl, sym, ap, ◌∙◌, subst, map, filter, length, take, drop, arith, eqb, eq-eqb, length-append, length-take}
 use Rattle.std.specs.List.{Contains, remove}
 use Rattle.std.specs.Ordering.{nat_cmp}
-use Rattle.std.proofs.lemmas.List.{length-map}
+use Rattle.std.proofs.lemmas.List.{length-map, map-append, map-id}
 use Rattle.std.proofs.lemmas.List.Elements.{filter-append}
+use Rattle.std.proofs.lemmas.Simd.{map-map}
 use Rattle.star_io.specs.declared.record.Record.{Record}
+use Rattle.std.proofs.lemmas.Bool.{ne_eqb}
 use Rattle.star_lists.specs.Ascending.{in_order}
 use Rattle.star_lists.specs.Numbered.{numbered_from}
-use Rattle.star_lists.proofs.Elements.{In, in_from_Contains, Contains-from_in, map-append}
+use Rattle.star_lists.proofs.Elements.{In, in_from_Contains, Contains-from_in, filter_whole}
+use Rattle.star_lists.proofs.Mapped.{filter-map}
+use Rattle.star_lists.proofs.Inside.{from_filter_map, from_in_order, in_either, in_left, in_right, in_in_order}
+use Rattle.star_lists.proofs.InOrder.{by_total, filter-in_order, in_order-map}
 use Rattle.layer_walk.specs.declared.auxiliary.Aux.{Aux}
 use Rattle.layer_walk.specs.declared.refusal.Refusal.{Refusal}
 use Rattle.layer_walk.specs.declared.refusal.Stage.TheVariants.{Outer, Layer}
@@ -15,9 +20,6 @@ use Rattle.layer_walk.specs.declared.refusal.Why.{Why}
 use Rattle.layer_walk.specs.Levels.{rows_from, refused_row, refusals_at}
 use Rattle.layer_walk.specs.Reveal.{first_frame, outer_rows, outer_refusals, by_index, by_aux_index, by_path, level_count, groups_told, refusals_told, aux_told, levels_told, reveal_of}
 use Rattle.layer_walk.specs.Laws.{lowered_refusal, lowered_aux, refusals_without as without, OnlyLacks}
-use Rattle.layer_walk.proofs.Inside.{from_filter_map, from_in_order, in_either, in_left, in_right, in_in_order}
-use Rattle.layer_walk.proofs.Mapped.{filter-made, map-map, map-same}
-use Rattle.layer_walk.proofs.Order.{by_total, filter-in_order, in_order-map}
 use Rattle.layer_walk.proofs.OuterRows.{numbered_refusal, from_refusal}
 use Rattle.layer_walk.proofs.Renumbered.{raised, raised_misses, lowered_raised, renamed, renamed_refusal, renamed_aux, rows_without, refusals_before, refusals_behind, refusals_with, refusals_without}
 use Rattle.layer_walk.proofs.Renamed.{groups_told-renamed, levels_told-renamed, refusals_told-renamed, aux_told-renamed}
@@ -34,10 +36,9 @@ other n r = not (eqb r.index n)
 
 others_kept : (n : ℕ) (rs : List Refusal) → filter (other n) (map (renamed_refusal (raised n)) rs) ≡ map (renamed_refusal (raised n)) rs
 unfolding other
-others_kept n rs = filter-made (other n) (renamed_refusal (raised n)) (λ r. elim (eqb (raised n r.index) n) as (λ b. eqb (raised n r.index) n ≡ b → not b ≡ true) [
-  | true ↦ λ e. absurd (raised_misses n r.index (eqb-true (raised n r.index) n e))
-  | false ↦ λ _. refl
-] refl) rs
+others_kept n rs =
+    filter-map (other n) (λ r. true) (renamed_refusal (raised n)) (λ r. ap not (ne_eqb (raised n r.index) n (raised_misses n r.index))) rs
+    ∙ ap (map (renamed_refusal (raised n))) (filter_whole (λ r. true) rs (λ r i. refl))
 
 -- the refusal of n is dropped
 dropped : (n : ℕ) (us vs : List Refusal) (r : Refusal) (rs : List Refusal) → r.index ≡ n → us ++ vs ≡ map (renamed_refusal (raised n)) rs → filter (other n) (us ++ r ∷ vs) ≡ map (renamed_refusal (raised n)) rs
@@ -52,8 +53,8 @@ dropped n us vs r rs at is =
 
 lowered_back : (n : ℕ) (rs : List Refusal) → map (lowered_refusal n) (map (renamed_refusal (raised n)) rs) ≡ rs
 lowered_back n rs =
-    map-map (lowered_refusal n) (renamed_refusal (raised n)) (λ r. r) (λ r i. record { index = lowered_raised n r.index i; stage = r.stage; why = r.why }) rs
-    ∙ map-same (λ r. r) (λ r. refl) rs
+    map-map (lowered_refusal n) (renamed_refusal (raised n)) rs ∙ (λ i. map (λ (r : Refusal). let t : Refusal = record { index = lowered_raised n r.index i; stage = r.stage; why = r.why } in t) rs)
+    ∙ map-id rs
 
 -- all refusals in order, without that of n
 without_in_order : (n : ℕ) (before after : List Refusal) → filter (other n) before ≡ map (renamed_refusal (raised n)) after → without n (in_order by_index before) ≡ in_order by_index after
@@ -70,8 +71,9 @@ without_in_order n before after kept =
 aux_lowered : (n : ℕ) (told : List Aux) → map (lowered_aux n) (in_order by_aux_index (map (renamed_aux (raised n)) told)) ≡ in_order by_aux_index told
 aux_lowered n told =
     ap (map (lowered_aux n)) (in_order-map by_aux_index by_aux_index (renamed_aux (raised n)) (λ a b. raised_order n a.index b.index) told)
-    ∙ map-map (lowered_aux n) (renamed_aux (raised n)) (λ a. a) (λ a i. record { index = lowered_raised n a.index i; level = a.level; bytes = a.bytes }) (in_order by_aux_index told)
-    ∙ map-same (λ a. a) (λ a. refl) (in_order by_aux_index told)
+    ∙ map-map (lowered_aux n) (renamed_aux (raised n)) (in_order by_aux_index told)
+    ∙ (λ i. map (λ (a : Aux). let t : Aux = record { index = lowered_raised n a.index i; level = a.level; bytes = a.bytes } in t) (in_order by_aux_index told))
+    ∙ map-id (in_order by_aux_index told)
 
 -- ---- one refused record between others
 

@@ -1,7 +1,8 @@
 -- Two opened groups never have the same path: the path, the parent's check and the value give the head.
-use Rattle.std.proofs.Common.{◌≡◌, ◌≢◌, ℕ, zero, suc, ◌+◌, ◌≤◌, true, false, nat_lt, List, [], ◌∷◌, ◌++◌, Option, Some, None, inl, inr, refl, sym, ap, ◌∙◌, subst, length, arith, length-append}
+use Rattle.std.proofs.Common.{◌≡◌, ◌≢◌, ℕ, zero, suc, ◌+◌, ◌≤◌, true, false, nat_lt, List, [], ◌∷◌, Option, Some, None, inl, inr, refl, sym, ap, ◌∙◌, subst, length, arith, length-append}
 use Rattle.std.specs.Prelude.{if◌then◌else◌}
 use Rattle.std.specs.List.{filter_map, cons_option}
+use Rattle.std.proofs.lemmas.List.{same_from_push}
 use Rattle.report_frame.specs.declared.head.Head.{Head}
 use Rattle.report_frame.specs.View.{head_of}
 use Rattle.shamir_limbs.specs.declared.recovery.Recovered.{Recovered}
@@ -12,6 +13,7 @@ use Rattle.adss_commit.specs.Derivation.{opened_value}
 use Rattle.adss_commit.proofs.Honest.{one_head}
 use Rattle.star_lists.proofs.Elements.{In, Pairwise, all_of, of_all}
 use Rattle.star_lists.proofs.FirstOnes.{in_firsts}
+use Rattle.star_lists.proofs.Inside.{from_filter_map, in_either, pairwise_append, firsts_differ}
 use Rattle.layer_walk.specs.declared.outcome.Outcome.{Outcome}
 use Rattle.layer_walk.specs.declared.outcome.Outcome.TheVariants.{Opened, Few, NoLine, BadValue}
 use Rattle.layer_walk.specs.declared.path.Step.{Step}
@@ -21,7 +23,6 @@ use Rattle.layer_walk.specs.Rows.{Row, same_group, first_members}
 use Rattle.layer_walk.specs.Outcomes.{outcome_with, outcome_under, outcome_of, outcome_at}
 use Rattle.layer_walk.specs.Levels.{path_with, next_row, next_rows, rows_from, opened_row, opened_at}
 use Rattle.layer_walk.specs.Reveal.{groups_told}
-use Rattle.layer_walk.proofs.Inside.{from_filter_map, in_either, pairwise_append, firsts_differ}
 use Rattle.layer_walk.proofs.HeldRows.{next_from, told_from}
 use Rattle.layer_walk.proofs.Same.{OneGroup, in_one_group}
 
@@ -62,19 +63,6 @@ head_opens e l rows row value agree is = subst (IsGiven e l row.parent.check (he
 
 -- ---- opened groups of one path
 
--- lists that end in one element each
-last_same : {X : Type 0} (xs ys : List X) (x y : X) → xs ++ x ∷ [] ≡ ys ++ y ∷ [] → (xs ≡ ys) × (x ≡ y)
-last_same [] [] x y e = (refl, cc)
-last_same [] (b ∷ []) x y e = absurd (let h : [] ≡ y ∷ [] = cc in cc)
-last_same [] (b ∷ c ∷ ys) x y e = absurd (let h : [] ≡ c ∷ (ys ++ y ∷ []) = cc in cc)
-last_same (a ∷ []) [] x y e = absurd (let h : x ∷ [] ≡ [] = cc in cc)
-last_same (a ∷ c ∷ xs) [] x y e = absurd (let h : c ∷ (xs ++ x ∷ []) ≡ [] = cc in cc)
-last_same (a ∷ xs) (b ∷ ys) x y e =
-    let heads : a ≡ b = cc in
-    let tails : xs ++ x ∷ [] ≡ ys ++ y ∷ [] = cc in
-    let r = last_same xs ys x y tails in
-    ((λ i. heads i ∷ r.0 i), r.1)
-
 -- rows of one path have one check
 unfoldable pub PathsFix : List Row → Type 0
 PathsFix rows = (a b : Row) → In a rows → In b rows → a.parent.path ≡ b.parent.path → a.parent.check ≡ b.parent.check
@@ -83,7 +71,7 @@ PathsFix rows = (a b : Row) → In a rows → In b rows → a.parent.path ≡ b.
 pub one_path : (e l : ℕ) (rows : List Row) (a b : Row) (v w : List ℕ) (m n : ℕ) → PathsFix rows → In a rows → In b rows → outcome_at e l rows a ≡ Opened v m → outcome_at e l rows b ≡ Opened w n → path_with a v ≡ path_with b w → OneGroup a b
 unfolding PathsFix
 one_path e l rows a b v w m n fix ia ib oa ob same =
-    let last = last_same a.parent.path b.parent.path (record { value = v; k = a.frame.k; version = a.frame.version }) (record { value = w; k = b.frame.k; version = b.frame.version }) same in
+    let last = same_from_push a.parent.path b.parent.path (record { value = v; k = a.frame.k; version = a.frame.version }) (record { value = w; k = b.frame.k; version = b.frame.version }) same in
     let check : a.parent.check ≡ b.parent.check = fix a b ia ib last.0 in
     let first = head_opens e l rows a v m oa in
     let second = head_opens e l rows b w n ob in

@@ -9,6 +9,7 @@ use Rattle.star_io.specs.declared.record.Record.TheVariants.{Whole, TooLong, Cut
 use Rattle.report_frame.specs.Frame.{Fields, IsFrame}
 use Rattle.report_frame.specs.declared.head.Head.{Head}
 use Rattle.report_frame.specs.View.{head_of}
+use Rattle.star_lists.specs.Elements.{EquallyOften}
 use Rattle.shamir_limbs.specs.declared.share.Point.{Point}
 use Rattle.shamir_limbs.specs.KeyLine.{agreement_of_all}
 use Rattle.adss_commit.specs.declared.context.Context.{Context}
@@ -85,10 +86,6 @@ pub record SameGroups (e l : ℕ) (one other : List Row) : Type 0 where
   pub held : (row : Row) → held_by e l one row ≡ held_by e l other row
 
 -- ---- rows that stand equally often in two lists, whatever their numbers
-
--- each test passes equally often
-abbrev pub EquallyOften : {X : Type 0} → List X → List X → Type 0
-EquallyOften {X} xs ys = (test : X → Bool) → length (filter test xs) ≡ length (filter test ys)
 
 -- a row without its number
 pub record Report : Type 0 where

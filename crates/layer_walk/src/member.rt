@@ -46,7 +46,7 @@ pub(crate) fn read_members(
 }
 
 // Puts what one member holds last.
-#[tactic(auto, using(crate::proofs::Members::max_frame_within))]
+#[tactic(auto, using(report_frame::proofs::VersionFacts::frame_within))]
 fn read_member(
     alloc: Global,
     keys: &Keys,

@@ -14,8 +14,7 @@ use Rattle.report_frame.specs.Frame.{IsFrame}
 use Rattle.report_frame.specs.View.{head_of}
 use Rattle.report_frame.proofs.FrameLaws.{has_frame, frame_length}
 use Rattle.adss_commit.specs.declared.context.Context.{Context}
-use Rattle.adss_commit.specs.Derivation.{label, hashed, context_bytes, context_key, polynomial, body_key_of, body_of, box_of}
-use Rattle.adss_commit.specs.Derivation.{context_head}
+use Rattle.adss_commit.specs.Derivation.{label, hashed, context_bytes, context_key, polynomial, body_key_of, body_of, box_of, context_head}
 use Rattle.adss_commit.proofs.Honest.{body_twice}
 use Rattle.nest_client.specs.declared.client.Client.{Client}
 use Rattle.nest_client.specs.Report.{coins, point_of, nonce_of, layer, frame_of, HoldsUnder}

@@ -1,36 +1,34 @@
 -- The certificates of a stream are those of the groups that its reveal opens, and an audit says Yes to each.
-use Rattle.std.proofs.Common.{◌≡◌, ℕ, zero, suc, ◌≤◌, List, [], ◌∷◌, ◌++◌, Option, Some, None, inl, inr, length, map, refl, sym, ap, ◌∙◌, subst, All}
-use Rattle.std.specs.List.{AllZip, Contains, filter_map}
+use Rattle.std.proofs.Common.{◌≡◌, ℕ, zero, suc, ◌≤◌, List, ◌++◌, Option, Some, None, inl, inr, length, map, refl, sym, ap, ◌∙◌, subst, All}
+use Rattle.std.specs.List.{AllZip, filter_map}
 use Rattle.std.specs.Option.{option_map}
 use Rattle.std.proofs.lemmas.List.Elements.{All-from_recursion, All-map, All-weaker}
+use Rattle.std.proofs.lemmas.List.{map-append}
 use Rattle.field61.specs.Field.{AreElements}
-use Rattle.report_frame.specs.View.{head_of}
 use Rattle.shamir_limbs.specs.KeyLine.{xs_of, AreDistinct}
 use Rattle.star_io.specs.declared.record.Record.{Record}
 use Rattle.star_lists.specs.Ascending.{in_order}
-use Rattle.star_lists.specs.Numbered.{joined_below}
-use Rattle.star_lists.proofs.Elements.{In, Contains-from_in, all_of, map-append}
+use Rattle.star_lists.proofs.Elements.{In, Contains-from_in, all_of}
 use Rattle.star_lists.proofs.FirstOnes.{in_firsts}
+use Rattle.star_lists.proofs.Inside.{from_filter_map, from_in_order, in_either}
+use Rattle.star_lists.proofs.Mapped.{map-filter_map}
+use Rattle.star_lists.proofs.Zips.{AllZip-map}
 use Rattle.tag_groups.specs.Left.{point_of}
 use Rattle.tag_groups.proofs.LeftLaws.{distinct_left}
-use Rattle.layer_walk.specs.declared.outcome.Outcome.{Outcome}
-use Rattle.layer_walk.specs.declared.outcome.Outcome.TheVariants.{Opened, Few, NoLine, BadValue}
 use Rattle.layer_walk.specs.declared.revealed.OpenedGroup.{OpenedGroup}
 use Rattle.layer_walk.specs.Rows.{Row, same_group, members, first_members, points_left}
-use Rattle.layer_walk.specs.Outcomes.{outcome_of, outcome_at}
+use Rattle.layer_walk.specs.Outcomes.{outcome_at}
 use Rattle.layer_walk.specs.Levels.{opened_at, opened_row, path_with, rows_from}
 use Rattle.layer_walk.specs.Reveal.{by_path, groups_told, level_count, outer_rows, reveal_of}
 use Rattle.layer_walk.specs.Laws.{AreByteRecords}
 use Rattle.layer_walk.proofs.HeldRows.{opened_to, mapped_is}
-use Rattle.layer_walk.proofs.Inside.{from_filter_map, from_in_order, in_either}
-use Rattle.layer_walk.proofs.MadeLists.{map-filter_map}
 use Rattle.cert_audit.specs.declared.cert.Cert.{Cert}
 use Rattle.cert_audit.specs.declared.limits.TheConstants.{MAX_POINTS}
 use Rattle.cert_audit.specs.Audit.{verdict_of}
 use Rattle.cert_audit.specs.Certificate.{IsCert}
 use Rattle.open_cert.specs.declared.certified.Certified.{Certified}
 use Rattle.open_cert.specs.Certs.{row_cert, with_cert, certified_row, certified_at, certified_told, by_told_path, certified_of, certs_list, SaysYes, IsCertOf}
-use Rattle.open_cert.proofs.ByPath.{order_mapped, zip_mapped}
+use Rattle.star_lists.proofs.InOrder.{in_order-map}
 use Rattle.open_cert.proofs.Ranges.{left_elements, cert_in_range}
 use Rattle.open_cert.proofs.Verdicts.{IsOpenCert, open_length, open_yes}
 
@@ -56,7 +54,7 @@ told_below e rows (suc n) =
 pub told_is : (e : ℕ) (records : List Record) → map (λ (c : Certified). c.told) (certified_of e records) ≡ (reveal_of e records).groups
 unfolding certified_of reveal_of
 told_is e records =
-    order_mapped (λ (c : Certified). c.told) by_path (certified_told e (outer_rows e records) level_count)
+    sym (in_order-map by_told_path by_path (λ (c : Certified). c.told) (λ a b. refl) (certified_told e (outer_rows e records) level_count))
     ∙ ap (in_order by_path) (told_below e (outer_rows e records) level_count)
 
 -- ---- each certificate is that of its group
@@ -136,7 +134,7 @@ module _ (e : ℕ) (records : List Record) (bytes : AreByteRecords records) wher
   pub complete : AllZip (IsCertOf e outer) (reveal_of e records).groups (certs_list e records)
   complete =
       subst (λ groups. AllZip (IsCertOf e outer) groups (certs_list e records)) (told_is e records)
-      (zip_mapped (IsCertOf e outer) (λ (c : Certified). c.told) (λ (c : Certified). c.cert) (certified_of e records)
+      (AllZip-map (IsCertOf e outer) (λ (c : Certified). c.told) (λ (c : Certified). c.cert) (certified_of e records)
       (All-weaker (IsRevealed e (length records) outer) (λ c. IsCertOf e outer c.told c.cert) (λ c r. r.cert) (certified_of e records) all_revealed))
 
   -- each in range

@@ -1,11 +1,12 @@
 -- What is made of the groups of a level is what its rows say.
-use Rattle.std.proofs.Common.{◌≡◌, ℕ, ◌+◌, ◌<◌, get_or, take, List, [], ◌∷◌, ◌++◌, Option, Some, None, length, map, refl, sym, ap, ◌∙◌, All, append-nil}
+use Rattle.std.proofs.Common.{◌≡◌, ℕ, ◌+◌, ◌<◌, get_or, take, List, [], ◌∷◌, ◌++◌, Option, Some, None, length, map, refl, sym, ap, ◌∙◌, All}
 use Rattle.std.specs.List.{filter_map, flat_map, cons_option}
 use Rattle.std.specs.Option.{option_map, option_to_list}
 use Rattle.std.proofs.lemmas.List.Elements.{All-head, All-tail}
 use Rattle.report_frame.specs.View.{head_of}
 use Rattle.shamir_limbs.specs.Numbers.{line_numbers}
 use Rattle.star_lists.specs.FirstOnes.{first_ones}
+use Rattle.star_lists.proofs.Mapped.{All-first_ones, flat_map-push, take-step}
 use Rattle.tag_groups.specs.RowView.{RowView}
 use Rattle.tag_groups.specs.GroupView.{GroupView}
 use Rattle.tag_groups.specs.Keys.{same_key}
@@ -14,14 +15,11 @@ use Rattle.layer_walk.specs.declared.level.Level.{Level}
 use Rattle.layer_walk.specs.declared.outcome.Outcome.{Outcome}
 use Rattle.layer_walk.specs.declared.outcome.Outcome.TheVariants.{Opened, Few, NoLine, BadValue}
 use Rattle.layer_walk.specs.declared.revealed.OpenedGroup.{OpenedGroup}
-use Rattle.layer_walk.specs.Rows.{first_members}
 use Rattle.layer_walk.specs.Made.{named_row, named, IsLevel}
 use Rattle.layer_walk.specs.Outs.{group_points, group_outcome}
 use Rattle.layer_walk.specs.Told.{told_under}
 use Rattle.layer_walk.proofs.Making.{HasParent, same_points, first_ones_named}
-use Rattle.layer_walk.proofs.MadeLists.{All-first_ones, flat_map-push, take-step}
 use Rattle.layer_walk.proofs.Telling.{told_option, group_told}
-use Rattle.cert_audit.specs.declared.cert.Cert.{Cert}
 use Rattle.open_cert.specs.declared.certified.Certified.{Certified}
 use Rattle.open_cert.specs.Certs.{row_cert, with_cert, certified_row, certified_at}
 use Rattle.open_cert.specs.Made.{group_cert, certified_under, certified_groups}

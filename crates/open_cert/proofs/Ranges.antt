@@ -1,5 +1,5 @@
 -- The fields of the certificate of a group are in their ranges.
-use Rattle.std.proofs.Common.{◌≡◌, ℕ, zero, suc, ◌*◌, ◌<◌, ◌≤◌, List, [], ◌∷◌, inl, inr, length, map, refl, sym, ap, ◌∙◌, subst, arith, All}
+use Rattle.std.proofs.Common.{◌≡◌, ℕ, zero, suc, ◌*◌, ◌<◌, ◌≤◌, List, [], ◌∷◌, inl, inr, length, map, refl, sym, ap, ◌∙◌, subst, arith}
 use Rattle.std.specs.List.{AllByRecursion}
 use Rattle.std.specs.List.Sorted.{IsStrictlySortedBy, IsStrictlyIncreasing}
 use Rattle.std.specs.Ordering.{nat_cmp}
@@ -19,7 +19,8 @@ use Rattle.report_frame.proofs.FrameLaws.{in_range}
 use Rattle.shamir_limbs.specs.declared.share.Point.{Point}
 use Rattle.shamir_limbs.specs.KeyLine.{xs_of}
 use Rattle.star_lists.proofs.Elements.{In, from_filter, filter_fewer, filter_map_fewer}
-use Rattle.tag_groups.specs.Left.{x_cmp, point_of, points_left_of}
+use Rattle.star_lists.proofs.Inside.{from_map}
+use Rattle.tag_groups.specs.Left.{x_cmp, point_of}
 use Rattle.tag_groups.proofs.Left.{from_left, rising_left}
 use Rattle.tag_groups.proofs.LeftLaws.{few_left}
 use Rattle.layer_walk.specs.Rows.{Row, same_group, members, points_left}
@@ -28,7 +29,6 @@ use Rattle.layer_walk.specs.Reveal.{outer_rows}
 use Rattle.layer_walk.specs.Laws.{AreByteRecords}
 use Rattle.layer_walk.proofs.Firsts.{few_rows}
 use Rattle.layer_walk.proofs.Framed.{each_framed}
-use Rattle.layer_walk.proofs.Gathered.{from_map}
 use Rattle.cert_audit.specs.declared.cert.Cert.{Cert}
 use Rattle.cert_audit.specs.declared.limits.TheConstants.{MAX_POINTS}
 use Rattle.cert_audit.specs.Certificate.{IsCert}

@@ -1,9 +1,8 @@
 -- The verdict of a certificate and the outcome of its group.
-use Rattle.std.proofs.Common.{◌≡◌, ℕ, ◌*◌, ◌<◌, ◌≤◌, List, Option, Some, None, inl, inr, length, refl, sym, ap, ◌∙◌, subst, arith}
+use Rattle.std.proofs.Common.{◌≡◌, ℕ, ◌*◌, ◌≤◌, List, Option, Some, None, inl, inr, length, refl, sym, ap, ◌∙◌}
 use Rattle.std.proofs.lemmas.Bool.{cases_lt}
 use Rattle.field61.specs.Field.{AreElements}
 use Rattle.report_frame.specs.declared.head.Head.{Head}
-use Rattle.report_frame.specs.View.{head_of}
 use Rattle.shamir_limbs.specs.declared.share.Point.{Point}
 use Rattle.shamir_limbs.specs.declared.recovery.Recovered.{Recovered}
 use Rattle.shamir_limbs.specs.KeyLine.{AreDistinct, xs_of, IsKeyLine}
@@ -11,10 +10,8 @@ use Rattle.shamir_limbs.specs.Search.{key_line_of, recovered_from}
 use Rattle.shamir_limbs.specs.Numbers.{line_numbers}
 use Rattle.shamir_limbs.proofs.LineNumbers.{found_numbers}
 use Rattle.shamir_limbs.proofs.LineSearch.{line_of_polynomials}
-use Rattle.adss_commit.specs.Derivation.{opened_value}
-use Rattle.layer_walk.specs.declared.outcome.Outcome.{Outcome}
-use Rattle.layer_walk.specs.declared.outcome.Outcome.TheVariants.{Opened, Few, NoLine, BadValue}
-use Rattle.layer_walk.specs.Rows.{Row, points_left}
+use Rattle.layer_walk.specs.declared.outcome.Outcome.TheVariants.{Opened, Few, NoLine}
+use Rattle.layer_walk.specs.Rows.{Row}
 use Rattle.layer_walk.specs.Outcomes.{outcome_of, outcome_at, outcome_with}
 use Rattle.layer_walk.proofs.Opening.{outcome_few, outcome_line, outcome_no_line}
 use Rattle.cert_audit.specs.declared.cert.Cert.{Cert}

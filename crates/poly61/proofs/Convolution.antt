@@ -3,7 +3,7 @@ use Rattle.std.proofs.Common.{ℕ, zero, suc, ◌+◌, ◌-◌, ◌<◌, ◌≤�
 use Rattle.std.proofs.lemmas.Bool.{cases_lt}
 use Rattle.field61.specs.Field.{field_sum, field_product, field_power, AreElements}
 use Rattle.field61.specs.Sums.{field_total}
-use Rattle.field61.proofs.FieldLaws.{ring, power_zero, sum_zero, zero_sum, product_below, product_zero, zero_product, one_product}
+use Rattle.field61.proofs.FieldLaws.{ring, power_zero, sum_zero, zero_sum, product_below, product_zero, zero_product, one_product, sum_commutes}
 use Rattle.field61.proofs.Totals.{field_total-below, field_total-same, field_total-split}
 use Rattle.poly61.specs.Poly.{value, HasDegreeBelow}
 use Rattle.poly61.specs.Blocks.{IsBlend, AddsProduct, product_at}
@@ -35,10 +35,7 @@ product_of-total zero c d t = refl
 product_of-total (suc m) c d zero =
     let none : field_total m (λ i. field_product (c (suc i)) (shifted (suc i) d 0)) ≡ 0 = field_total-zero m _ (λ i _. product_zero (c (suc i))) in
     ap (field_sum (raised (product_of m (tail c) d) 0)) {x = field_product (c 0) (d 0)} refl ∙ zero_sum _ (product_below (c 0) (d 0)) ∙ sym (ap (field_sum (field_product (c 0) (d 0))) none ∙ sum_zero _ (product_below (c 0) (d 0)))
-product_of-total (suc m) c d (suc t) = ap (λ s. field_sum s (field_product (c 0) (d (suc t)))) (product_of-total m (tail c) d t) ∙ swap _ _
-  where
-    swap : (a b : ℕ) → field_sum a b ≡ field_sum b a
-    swap a b = simp ring
+product_of-total (suc m) c d (suc t) = ap (λ s. field_sum s (field_product (c 0) (d (suc t)))) (product_of-total m (tail c) d t) ∙ sum_commutes _ _
 
 -- and as the sum over all that adds up to t
 pub column_is : (m : ℕ) (c d : ℕ → ℕ) (t : ℕ) → IsZeroFrom c m → field_total (t + 1) (λ i. field_product (c i) (d (t - i))) ≡ product_of m c d t

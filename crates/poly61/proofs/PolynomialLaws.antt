@@ -14,7 +14,7 @@ use Rattle.poly61.proofs.Places.{value_to-sum, IsBounded}
 use Rattle.poly61.proofs.Counts.{count_to-all}
 use Rattle.poly61.proofs.Roots.{AreApart, root_count, few_roots, same_from_agreement}
 use Rattle.poly61.proofs.Lists.{coefficient_of, AreElements-bounded, value-value_to, value-places}
-use Rattle.poly61.proofs.Products.{value-vanishing_of, vanishing_of-below, vanishing_of-top, vanishing_of-root, vanishing_multiple}
+use Rattle.poly61.proofs.Products.{vanishing_of-below, vanishing_of-top, vanishing_of-root, vanishing_multiple}
 
 pub value_is_sum : (f : List ℕ) (x : ℕ) → AreElements f → value f x ≡ field_total (length f) (λ i. field_product (get_or f i 0) (field_power x i))
 value_is_sum f x elements = value-value_to f x ∙ value_to-sum (length f) (coefficient_of f) x (AreElements-bounded f elements)
@@ -46,9 +46,6 @@ determined f g n enough f_elements g_elements f_below g_below agree =
 
 pub values_determine : (f g : List ℕ) → AreElements f → AreElements g → HasDegreeBelow f MODULUS → HasDegreeBelow g MODULUS → ((x : ℕ) → x < MODULUS → value f x ≡ value g x) → SameCoefficients f g
 values_determine f g = determined f g MODULUS (omega arith)
-
-pub vanishing_value : (xs : List ℕ) (z : ℕ) → value (vanishing_of xs) z ≡ difference_product xs z
-vanishing_value = value-vanishing_of
 
 pub vanishing_degree : (xs : List ℕ) → HasDegree (vanishing_of xs) (length xs) × (get_or (vanishing_of xs) (length xs) 0 ≡ 1)
 vanishing_degree xs = (record { top = λ none. one_is_not_zero _ (vanishing_of-top xs) none; above = λ i past. vanishing_of-below xs i (omega arith) }, vanishing_of-top xs)

@@ -47,9 +47,9 @@ vanishing_of-top (a ∷ rest) =
     IsLinearMultiple-top (vanishing_of (a ∷ rest)) (vanishing_of rest) a 0 (length rest) (AreElements-from_bounded _ (vanishing_of-bounded rest)) (vanishing_of-multiple a rest) (vanishing_of-below rest)
     ∙ vanishing_of-top rest
 
-pub value-vanishing_of : (xs : List ℕ) (z : ℕ) → value (vanishing_of xs) z ≡ difference_product xs z
-value-vanishing_of [] z = value-one (1 ∷ []) z refl (vanishing_of-below [])
-value-vanishing_of (a ∷ rest) z = linear_value (vanishing_of (a ∷ rest)) (vanishing_of rest) a z (vanishing_of-multiple a rest) ∙ ap (field_product (field_difference z a)) (value-vanishing_of rest z)
+pub vanishing_value : (xs : List ℕ) (z : ℕ) → value (vanishing_of xs) z ≡ difference_product xs z
+vanishing_value [] z = value-one (1 ∷ []) z refl (vanishing_of-below [])
+vanishing_value (a ∷ rest) z = linear_value (vanishing_of (a ∷ rest)) (vanishing_of rest) a z (vanishing_of-multiple a rest) ∙ ap (field_product (field_difference z a)) (vanishing_value rest z)
 
 pub vanishing_of-root : (xs : List ℕ) (i : ℕ) → i < length xs → value (vanishing_of xs) (get_or xs i 0) ≡ 0
 vanishing_of-root [] i within = absurd (omega arith)

@@ -40,7 +40,7 @@ pub fn values_determine()
 {}
 
 /// The product of the (x - a) has at z the value of the product of the z - a.
-#[tactic(auto, using(crate::proofs::PolynomialLaws::vanishing_value))]
+#[tactic(auto, using(crate::proofs::Products::vanishing_value))]
 pub fn vanishing_value()
     ensures { (xs : List ℕ) (z : ℕ) → value (vanishing_of xs) z ≡ difference_product xs z }
 {}

@@ -1,5 +1,6 @@
 -- The frame as a format: what its entries are, and what bytes decode to.
 use Rattle.std.proofs.Common.{◌≡◌, ℕ, ◌+◌, ◌≤◌, List, [], ◌∷◌, length, Option, Some, None, Result, Ok, Err, refl, sym, ap, subst, ◌∙◌, rules, arith, inl, inr}
+use Rattle.std.proofs.Math.Nat.{le_antisymm}
 use Rattle.star_io.specs.Bytes.{AreBytes}
 use Rattle.report_frame.specs.declared.limits.TheConstants.{MAGIC}
 use Rattle.report_frame.specs.declared.fault.FaultKind.{FaultKind}
@@ -40,10 +41,6 @@ nothing_first : (es : List Entry) → After End es IsEnd → es ≡ []
 nothing_first [] after = refl
 nothing_first (e ∷ es) after = absurd after
 
--- a number of a field with one value
-pinned : (n value : ℕ) → value ≤ n → n ≤ value → n ≡ value
-pinned n value enough within = omega arith
-
 -- what a report puts into the fields from the length of the box on
 record HasBack (es : List Entry) : Type 0 where
   boxed : List ℕ
@@ -83,7 +80,7 @@ whole_entries es whole =
     bytes_first (HasReport es) _ _ es9 whole9 (λ tag es10 tag_is _ whole10.
     bytes_first (HasReport es) _ _ es10 whole10 (λ check es11 check_is _ whole11.
     let rest = back_entries es11 whole11 in
-    let is_magic = pinned magic MAGIC magic_low magic_high in
+    let is_magic = le_antisymm magic_high magic_low in
     let is_number = number_of_version number number_low number_high in
     let report : Fields = record {
       version = version_of number;

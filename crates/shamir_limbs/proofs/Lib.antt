@@ -3,4 +3,4 @@ pub mod LimbLaws
 pub mod LineNumbers
 pub mod LineSearch
 pub mod LowBytes
-mod OnAll
+pub mod OnAll

@@ -6,7 +6,8 @@ use Rattle.star_io.proofs.ByteLists.{AreBytes-take, AreBytes-drop, AreBytes-appe
 use Rattle.shamir_limbs.specs.Limbs.{big_endian, limbs, key_bytes, IsKey, AreLimbs, HaveOneKey}
 use Rattle.shamir_limbs.proofs.LowBytes.{AreBytes-bytes_high_first, big_endian-below_5, big_endian-below_6, big_endian-low_5, big_endian-low_6, drop-big_endian}
 
-three_items : (xs : List ℕ) → length xs ≡ 3 → slice_index xs 0 ∷ slice_index xs 1 ∷ slice_index xs 2 ∷ [] ≡ xs
+-- three items are the list of them
+pub three_items : (xs : List ℕ) → length xs ≡ 3 → slice_index xs 0 ∷ slice_index xs 1 ∷ slice_index xs 2 ∷ [] ≡ xs
 three_items [] three = absurd (omega arith)
 three_items (x ∷ []) three = absurd (omega arith)
 three_items (x ∷ y ∷ []) three = absurd (omega arith)

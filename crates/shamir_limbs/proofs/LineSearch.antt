@@ -7,8 +7,10 @@ use Rattle.field61.specs.Field.{AreElements}
 use Rattle.field61.specs.declared.TheConstants.{MODULUS}
 use Rattle.poly61.specs.Poly.{AreDistinct}
 use Rattle.gao_decoder.specs.Search.{polynomials_below}
-use Rattle.gao_decoder.proofs.Finding.{IsIn, IsIn-map, IsIn-flat_map, All-flat_map, IfSome-find, IsSome-find}
-use Rattle.gao_decoder.proofs.Search.{HasCoefficientsBelow, HasCoefficientsBelow-degree, All-polynomials_below, front_of, front_of-same, IsIn-front_of}
+use Rattle.star_lists.proofs.Elements.{In}
+use Rattle.star_lists.proofs.Inside.{in_map}
+use Rattle.gao_decoder.proofs.Finding.{in_flat_map, All-flat_map, IfSome-find, IsSome-find}
+use Rattle.gao_decoder.proofs.Search.{HasCoefficientsBelow, HasCoefficientsBelow-degree, All-polynomials_below, front_of, front_of-same, in_front_of}
 use Rattle.shamir_limbs.specs.KeyLine.{xs_of, values_at_zero, IsKeyLine, IsRecoveredFrom, AreSame}
 use Rattle.shamir_limbs.specs.Limbs.{limbs, key_bytes, IsKey, AreLimbs}
 use Rattle.shamir_limbs.specs.Search.{Triple, triples_below, are_limbs, is_key_line, recovered_from, key_line_of}
@@ -36,19 +38,20 @@ All-triples_below p k =
     (All-weaker (HasCoefficientsBelow p k) (λ h. HaveCoefficientsBelow p k (record { first = f; second = g; third = h })) (λ h third. record { first = first; second = second; third = third }) all each)))
 
 -- and each three of the polynomials are a triple of it
-IsIn-triples_below : (p k : ℕ) (f g h : List ℕ) → IsIn f (polynomials_below p k) → IsIn g (polynomials_below p k) → IsIn h (polynomials_below p k)
-    → IsIn (record { first = f; second = g; third = h }) (triples_below p k)
+in_triples_below : (p k : ℕ) (f g h : List ℕ) → In f (polynomials_below p k) → In g (polynomials_below p k) → In h (polynomials_below p k)
+    → In (record { first = f; second = g; third = h }) (triples_below p k)
 unfolding triples_below
-IsIn-triples_below p k f g h first second third =
-    IsIn-flat_map _ f _ (polynomials_below p k) first (IsIn-flat_map _ g _ (polynomials_below p k) second (IsIn-map (λ w. record { first = f; second = g; third = w }) h (polynomials_below p k) third))
+in_triples_below p k f g h first second third =
+    in_flat_map _ f _ (polynomials_below p k) first (in_flat_map _ g _ (polynomials_below p k) second (in_map (λ w. record { first = f; second = g; third = w }) h (polynomials_below p k) third))
 
-are_limbs-true : (numbers : List ℕ) → are_limbs numbers ≡ true → AreLimbs numbers
+-- what the test of limbs says, both ways
+pub are_limbs-true : (numbers : List ℕ) → are_limbs numbers ≡ true → AreLimbs numbers
 are_limbs-true numbers is =
     let parts = and_parts _ _ is in
     let rest = and_parts _ _ parts.1 in
     (ltb-true _ _ parts.0, ltb-true _ _ rest.0, ltb-true _ _ rest.1)
 
-AreLimbs-are_limbs : (numbers : List ℕ) → AreLimbs numbers → are_limbs numbers ≡ true
+pub AreLimbs-are_limbs : (numbers : List ℕ) → AreLimbs numbers → are_limbs numbers ≡ true
 AreLimbs-are_limbs numbers is = and_from _ _ (lt-ltb _ _ is.0) (and_from _ _ (lt-ltb _ _ is.1) (lt-ltb _ _ is.2))
 
 -- what passes the test is a key line
@@ -87,7 +90,7 @@ line_is_found q0 q1 q2 points k line =
     let same : AreSame f0 f1 f2 q0 q1 q2 = (front_of-same q0 k line.below.0, front_of-same q1 k line.below.1, front_of-same q2 k line.below.2) in
     let q : Triple = record { first = f0; second = f1; third = f2 } in
     of_found (find (is_key_line points k) (triples_below MODULUS k)) (IsSome-find (is_key_line points k) q (triples_below MODULUS k)
-    (IsIn-triples_below MODULUS k f0 f1 f2 (IsIn-front_of q0 k line.elements.0) (IsIn-front_of q1 k line.elements.1) (IsIn-front_of q2 k line.elements.2))
+    (in_triples_below MODULUS k f0 f1 f2 (in_front_of q0 k line.elements.0) (in_front_of q1 k line.elements.1) (in_front_of q2 k line.elements.2))
     (and_from _ _ (AreLimbs-are_limbs (values_at_zero f0 f1 f2) (subst AreLimbs (sym (values_at_zero-same f0 f1 f2 q0 q1 q2 same)) line.limbs))
     (le-leb _ _ (omega (arith, line.agrees, agreement_of_all-same f0 f1 f2 q0 q1 q2 points same)))))
   where

@@ -28,7 +28,8 @@ module _ {X : Type 0} (c : X → X → Ordering) (o : IsTotalOrder c) where
   all_below x z [] h t = tt
   all_below x z (y ∷ ys) h t = (o.trans x z y h t.0, all_below x z ys h t.1)
 
-  below_put : (z x : X) (ys : List X) → c z x ≡ Less → AllByRecursion (λ y. c z y ≡ Less) ys → AllByRecursion (λ y. c z y ≡ Less) (put c x ys)
+  below_put : (z x : X) (ys : List X) → c z x ≡ Less → AllByRecursion (λ y. c z y ≡ Less) ys
+      → AllByRecursion (λ y. c z y ≡ Less) (put c x ys)
   below_put z x [] h t = (h, tt)
   below_put z x (y ∷ ys) h t =
       elim (c x y) as (λ r. AllByRecursion (λ y. c z y ≡ Less) (by_order r (x ∷ y ∷ ys) (y ∷ ys) (y ∷ put c x ys))) [
@@ -85,7 +86,8 @@ module _ {X : Type 0} (c : X → X → Ordering) (o : IsTotalOrder c) where
   -- each element ties with one of them
   pub tied_ascending : (z : X) (xs : List X) → In z xs → Tied z (ascending c xs)
   tied_ascending z [] i = absurd i
-  tied_ascending z (x ∷ xs) i = tied_put z x (ascending c xs) (elim i [ inl q ↦ inl (subst (λ w. c z w ≡ Equal) q (tied_itself o z)) | inr j ↦ inr (tied_ascending z xs j) ])
+  tied_ascending z (x ∷ xs) i =
+      tied_put z x (ascending c xs) (elim i [ inl q ↦ inl (subst (λ w. c z w ≡ Equal) q (tied_itself o z)) | inr j ↦ inr (tied_ascending z xs j) ])
 
   -- the one that ties
   pub from_tied : (z : X) (xs : List X) → Tied z xs → (w : X) × In w xs × (c z w ≡ Equal)

@@ -1,9 +1,8 @@
 -- The elements of a list, those that pass a test, and what holds of all of them.
-use Rattle.std.proofs.Common.{◌≡◌, ℕ, zero, suc, ◌<◌, ◌≤◌, arith, Bool, true, false, cond, ◌&&◌, ◌||◌, List, [], ◌∷◌, ◌++◌, ◌⊎◌, inl, inr, Option, None, Some, length, refl, sym, ap, ◌∙◌, subst, map, filter, get_or}
-use Rattle.std.proofs.lemmas.Bool.{false≢true}
+use Rattle.std.proofs.Common.{◌≡◌, ℕ, zero, suc, ◌<◌, ◌≤◌, arith, Bool, true, false, cond, ◌&&◌, ◌||◌, List, [], ◌∷◌, ◌⊎◌, inl, inr, Option, None, Some, length, refl, sym, ap, ◌∙◌, subst, map, filter, get_or}
+use Rattle.std.proofs.lemmas.Bool.{false≢true, or_parts, or_right}
 use Rattle.std.specs.List.{AllByRecursion, Contains, cons_option, filter_map, list_all, list_any}
 use Rattle.std.specs.Cmp.{both_ways, first_so, second_so}
-use Rattle.star_lists.proofs.Bools.{left_false, right_false, or_true}
 
 -- x is an element
 abbrev pub In : {X : Type 0} → X → List X → Type 0
@@ -31,8 +30,10 @@ pub true_all : {X : Type 0} (p : X → Bool) (xs : List X) → ((z : X) → In z
 true_all p [] f = refl
 true_all p (x ∷ xs) f = ap (λ b. b && list_all p xs) (f x (inl refl)) ∙ true_all p xs (λ z i. f z (inr i))
 
-pub same_all : {X : Type 0} (p : X → Bool) (xs ys : List X) → ((z : X) → In z xs → In z ys) → ((z : X) → In z ys → In z xs) → list_all p xs ≡ list_all p ys
-same_all p xs ys f g = both_ways (list_all p xs) (list_all p ys) (λ h. true_all p ys (λ z i. all_true p xs h z (g z i))) (λ h. true_all p xs (λ z i. all_true p ys h z (f z i)))
+pub same_all : {X : Type 0} (p : X → Bool) (xs ys : List X) → ((z : X) → In z xs → In z ys) → ((z : X) → In z ys → In z xs)
+    → list_all p xs ≡ list_all p ys
+same_all p xs ys f g =
+    both_ways (list_all p xs) (list_all p ys) (λ h. true_all p ys (λ z i. all_true p xs h z (g z i))) (λ h. true_all p xs (λ z i. all_true p ys h z (f z i)))
 
 -- the elements that pass a test
 pub in_filter : {X : Type 0} (p : X → Bool) (xs : List X) (z : X) → In z xs → p z ≡ true → In z (filter p xs)
@@ -101,20 +102,17 @@ pub none_filtered : {X : Type 0} (p q : X → Bool) (xs : List X) → list_any p
 none_filtered p q [] h = refl
 none_filtered p q (x ∷ xs) h =
     elim (q x) as (λ b. list_any p (cond b (x ∷ filter q xs) (filter q xs)) ≡ false) [
-      | true ↦ λ i. left_false (p x) (list_any p xs) h i || none_filtered p q xs (right_false (p x) (list_any p xs) h) i
-      | false ↦ none_filtered p q xs (right_false (p x) (list_any p xs) h)
+      | true ↦ λ i. (or_parts (p x) (list_any p xs) h).0 i || none_filtered p q xs (or_parts (p x) (list_any p xs) h).1 i
+      | false ↦ none_filtered p q xs (or_parts (p x) (list_any p xs) h).1
     ]
 
 -- a test that an element passes
 pub any_in : {X : Type 0} (p : X → Bool) (xs : List X) (z : X) → In z xs → p z ≡ true → list_any p xs ≡ true
 any_in p [] z i h = absurd i
 any_in p (x ∷ xs) z (inl e) h = ap (λ b. b || list_any p xs) (ap p (sym e) ∙ h)
-any_in p (x ∷ xs) z (inr i) h = or_true (p x) (list_any p xs) (any_in p xs z i h)
+any_in p (x ∷ xs) z (inr i) h = or_right (p x) (list_any p xs) (any_in p xs z i h)
 
-pub list_any-map : {A B : Type 0} (p : B → Bool) (q : A → Bool) (f : A → B) → ((a : A) → p (f a) ≡ q a) → (xs : List A) → list_any p (map f xs) ≡ list_any q xs
+pub list_any-map : {A B : Type 0} (p : B → Bool) (q : A → Bool) (f : A → B) → ((a : A) → p (f a) ≡ q a) → (xs : List A)
+    → list_any p (map f xs) ≡ list_any q xs
 list_any-map p q f h [] = refl
 list_any-map p q f h (x ∷ xs) = λ i. h x i || list_any-map p q f h xs i
-
-pub map-append : {A B : Type 0} (f : A → B) (xs ys : List A) → map f (xs ++ ys) ≡ map f xs ++ map f ys
-map-append f [] ys = refl
-map-append f (x ∷ xs) ys = ap (λ l. f x ∷ l) (map-append f xs ys)

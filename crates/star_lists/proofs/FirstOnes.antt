@@ -30,7 +30,8 @@ none_like same x (y ∷ ys) =
 -- no first one is the same as a later one
 pub apart_firsts : {X : Type 0} (same : X → X → Bool) (xs : List X) → Apart same (first_ones same xs)
 apart_firsts same [] = tt
-apart_firsts same (x ∷ xs) = (none_like same x (first_ones same xs), apart_filtered same (λ y. not (same x y)) (first_ones same xs) (apart_firsts same xs))
+apart_firsts same (x ∷ xs) =
+    (none_like same x (first_ones same xs), apart_filtered same (λ y. not (same x y)) (first_ones same xs) (apart_firsts same xs))
 
 -- each first one is an element
 pub in_firsts : {X : Type 0} (same : X → X → Bool) (xs : List X) (z : X) → In z (first_ones same xs) → In z xs
@@ -45,7 +46,8 @@ few_firsts same (x ∷ xs) = omega (arith, filter_fewer (λ y. not (same x y)) (
 
 module _ {X : Type 0} (same : X → X → Bool) (through : (x y z : X) → same y z ≡ true → same z x ≡ true → same y x ≡ true) where
   -- what like y is taken away, what is like x stays, unless they are alike
-  pub kept : (x y : X) → same y x ≡ false → (zs : List X) → list_any (λ z. same z x) (filter (λ z. not (same y z)) zs) ≡ list_any (λ z. same z x) zs
+  pub kept : (x y : X) → same y x ≡ false → (zs : List X)
+      → list_any (λ z. same z x) (filter (λ z. not (same y z)) zs) ≡ list_any (λ z. same z x) zs
   kept x y apart [] = refl
   kept x y apart (z ∷ zs) =
       elim (same y z) as (λ b. same y z ≡ b → list_any (λ z. same z x) (cond (not b) (z ∷ filter (λ z. not (same y z)) zs) (filter (λ z. not (same y z)) zs)) ≡ (same z x || list_any (λ z. same z x) zs)) [
@@ -60,7 +62,8 @@ module _ {X : Type 0} (same : X → X → Bool) (through : (x y z : X) → same 
       no p q = cc
 
   -- one more element is a first one where no first one is like it
-  pub first_ones_push : (xs : List X) (x : X) → first_ones same (xs ++ x ∷ []) ≡ first_ones same xs ++ (if list_any (λ z. same z x) (first_ones same xs) then [] else x ∷ [])
+  pub first_ones_push : (xs : List X) (x : X)
+      → first_ones same (xs ++ x ∷ []) ≡ first_ones same xs ++ (if list_any (λ z. same z x) (first_ones same xs) then [] else x ∷ [])
   first_ones_push [] x = refl
   first_ones_push (y ∷ ys) x =
       let rest = first_ones same ys in

@@ -1,8 +1,13 @@
-pub mod Bools
 pub mod Elements
 pub mod FirstOnes
 pub mod Places
-pub mod Rising
-pub mod Ascending
-pub mod Stable
+pub mod Mapped
+pub mod Inside
 pub mod Numbered
+pub mod Zips
+pub mod Counted
+pub mod Gathered
+pub mod Ascending
+pub mod Rising
+pub mod Stable
+pub mod InOrder

@@ -5,12 +5,14 @@ use Rattle.std.proofs.lemmas.Option.{same_Some, none-some}
 use Rattle.std.specs.List.{filter_map, cons_option, slice_get, list_any}
 use Rattle.std.specs.Option.{option_map}
 use Rattle.std.specs.Prelude.{if◌then◌else◌}
+use Rattle.std.proofs.lemmas.Bool.{or_parts}
 use Rattle.star_lists.specs.Places.{places_from, places, place_of}
-use Rattle.star_lists.proofs.Bools.{left_false, right_false}
 
 -- one more element adds its place where it passes
-pub places_from_push : {X : Type 0} (j : ℕ) (test : X → Bool) (xs : List X) (x : X) → places_from j test (xs ++ x ∷ []) ≡ places_from j test xs ++ (if test x then (j + length xs) ∷ [] else [])
-places_from_push j test [] x = elim (test x) as (λ b. (if b then j ∷ [] else []) ≡ (if b then (j + 0) ∷ [] else [])) [ true ↦ ap (λ n. n ∷ []) (omega arith) | false ↦ refl ]
+pub places_from_push : {X : Type 0} (j : ℕ) (test : X → Bool) (xs : List X) (x : X)
+    → places_from j test (xs ++ x ∷ []) ≡ places_from j test xs ++ (if test x then (j + length xs) ∷ [] else [])
+places_from_push j test [] x =
+    elim (test x) as (λ b. (if b then j ∷ [] else []) ≡ (if b then (j + 0) ∷ [] else [])) [ true ↦ ap (λ n. n ∷ []) (omega arith) | false ↦ refl ]
 places_from_push j test (y ∷ ys) x =
     let later : places_from (j + 1) test (ys ++ x ∷ []) ≡ places_from (j + 1) test ys ++ (if test x then (j + suc (length ys)) ∷ [] else []) =
     places_from_push (j + 1) test ys x ∙ ap (λ n. places_from (j + 1) test ys ++ (if test x then n ∷ [] else [])) (omega arith) in
@@ -20,7 +22,8 @@ places_from_push j test (y ∷ ys) x =
     ]
 
 -- with one more element that passes the test, or doesn't
-pub places_more : {X : Type 0} (test : X → Bool) (xs ys : List X) (x : X) (b : Bool) → test x ≡ b → ys ≡ xs ++ x ∷ [] → places test ys ≡ places test xs ++ (if b then length xs ∷ [] else [])
+pub places_more : {X : Type 0} (test : X → Bool) (xs ys : List X) (x : X) (b : Bool) → test x ≡ b → ys ≡ xs ++ x ∷ []
+    → places test ys ≡ places test xs ++ (if b then length xs ∷ [] else [])
 places_more test xs ys x b is e =
     let one : places_from 0 test ys ≡ places_from 0 test (xs ++ x ∷ []) = ap (places_from 0 test) e in
     let two : places_from 0 test (xs ++ x ∷ []) ≡ places_from 0 test xs ++ (if b then (0 + length xs) ∷ [] else []) =
@@ -30,21 +33,24 @@ places_more test xs ys x b is e =
     one ∙ two ∙ three
 
 -- a loop's step: the element at i is x
-pub places_step : {X : Type 0} (test : X → Bool) (rows : List X) (i : ℕ) (x : X) (b : Bool) → i < length rows → x ≡ get_or rows i x → b ≡ test x → places test (take (i + 1) rows) ≡ places test (take i rows) ++ (if b then i ∷ [] else [])
+pub places_step : {X : Type 0} (test : X → Bool) (rows : List X) (i : ℕ) (x : X) (b : Bool) → i < length rows → x ≡ get_or rows i x
+    → b ≡ test x → places test (take (i + 1) rows) ≡ places test (take i rows) ++ (if b then i ∷ [] else [])
 places_step test rows i x b lt is known =
     let grown : take (i + 1) rows ≡ take i rows ++ x ∷ [] = take_more rows i x lt ∙ ap (λ y. take i rows ++ y ∷ []) (sym is) in
     let n : length (take i rows) ≡ i = length-take-le i rows (omega arith) in
-    places_more test (take i rows) (take (i + 1) rows) x b (sym known) grown ∙ ap (λ k. places test (take i rows) ++ (if b then k ∷ [] else [])) n
+    places_more test (take i rows) (take (i + 1) rows) x b (sym known) grown
+    ∙ ap (λ k. places test (take i rows) ++ (if b then k ∷ [] else [])) n
 
 -- no element passes
 pub places_none : {X : Type 0} (i : ℕ) (test : X → Bool) (xs : List X) → list_any test xs ≡ false → places_from i test xs ≡ []
 places_none i test [] h = refl
 places_none i test (x ∷ xs) h =
-    ap (λ b. if b then i ∷ places_from (i + 1) test xs else places_from (i + 1) test xs) (left_false (test x) (list_any test xs) h)
-    ∙ places_none (i + 1) test xs (right_false (test x) (list_any test xs) h)
+    ap (λ b. if b then i ∷ places_from (i + 1) test xs else places_from (i + 1) test xs) (or_parts (test x) (list_any test xs) h).0
+    ∙ places_none (i + 1) test xs (or_parts (test x) (list_any test xs) h).1
 
 -- each place is that of an element
-pub places_below : {X : Type 0} (i : ℕ) (test : X → Bool) (xs : List X) (k d : ℕ) → k < length (places_from i test xs) → get_or (places_from i test xs) k d < i + length xs
+pub places_below : {X : Type 0} (i : ℕ) (test : X → Bool) (xs : List X) (k d : ℕ) → k < length (places_from i test xs)
+    → get_or (places_from i test xs) k d < i + length xs
 places_below i test [] k d h = absurd (omega (arith, h))
 places_below i test (x ∷ ys) k d h =
     elim (test x) as (λ b. k < length (if b then i ∷ places_from (i + 1) test ys else places_from (i + 1) test ys) → get_or (if b then i ∷ places_from (i + 1) test ys else places_from (i + 1) test ys) k d < i + suc (length ys)) [
@@ -61,7 +67,8 @@ behind [] ys x = refl
 behind (p ∷ pre) ys x = behind pre ys x
 
 -- what stands at the places are the elements that pass
-pub elements_at_places : {X : Type 0} (pre xs : List X) (test : X → Bool) (i : ℕ) (all : List X) → i ≡ length pre → all ≡ pre ++ xs → filter_map (slice_get all) (places_from i test xs) ≡ filter test xs
+pub elements_at_places : {X : Type 0} (pre xs : List X) (test : X → Bool) (i : ℕ) (all : List X) → i ≡ length pre → all ≡ pre ++ xs
+    → filter_map (slice_get all) (places_from i test xs) ≡ filter test xs
 elements_at_places pre [] test i all n is = refl
 elements_at_places pre (x ∷ ys) test i all n is =
     let moved : all ≡ (pre ++ x ∷ []) ++ ys = is ∙ sym (append_assoc pre (x ∷ []) ys) in
@@ -86,7 +93,8 @@ pub or_none : (o : Option ℕ) → place_or o None ≡ o
 or_none None = refl
 or_none (Some p) = refl
 
-shifted : (o : Option ℕ) (b : Bool) (n : ℕ) → later (place_or o (if b then Some n else None)) ≡ place_or (later o) (if b then Some (suc n) else None)
+shifted : (o : Option ℕ) (b : Bool) (n : ℕ)
+    → later (place_or o (if b then Some n else None)) ≡ place_or (later o) (if b then Some (suc n) else None)
 shifted None true n = refl
 shifted None false n = refl
 shifted (Some p) b n = refl
@@ -104,7 +112,8 @@ place_below test (x ∷ xs) p e =
     ] e
 
 -- the place after one more element
-pub place_last : {X : Type 0} (test : X → Bool) (xs : List X) (x : X) → place_of test (xs ++ x ∷ []) ≡ place_or (place_of test xs) (if test x then Some (length xs) else None)
+pub place_last : {X : Type 0} (test : X → Bool) (xs : List X) (x : X)
+    → place_of test (xs ++ x ∷ []) ≡ place_or (place_of test xs) (if test x then Some (length xs) else None)
 place_last test [] x = refl
 place_last test (y ∷ ys) x =
     elim (test y) as (λ b. (if b then Some 0 else later (place_of test (ys ++ x ∷ []))) ≡ place_or (if b then Some 0 else later (place_of test ys)) (if test x then Some (suc (length ys)) else None)) [

@@ -3,23 +3,19 @@ use Rattle.std.proofs.Common.{◌≡◌, Bool, true, false, cond, not, ◌&&◌,
 use Rattle.std.specs.List.{AllByRecursion}
 use Rattle.std.specs.List.Sorted.{IsSorted, IsStable, ties}
 use Rattle.std.specs.Cmp.{IsTotalOrder, IsStrictWeakOrder}
-use Rattle.std.specs.Ordering.{ordering_reverse, is_lt}
+use Rattle.std.specs.Ordering.{ordering_reverse, is_lt, is_gt}
 use Rattle.std.specs.declared.cmp.Ordering.{Ordering}
 use Rattle.std.specs.declared.cmp.Ordering.TheVariants.{Less, Equal, Greater}
 use Rattle.std.proofs.lemmas.Bool.{false≢true}
+use Rattle.std.proofs.lemmas.Cmp.{tied_itself}
 use Rattle.star_lists.specs.Ascending.{by_order, put_before, in_order}
+use Rattle.star_lists.proofs.Elements.{Pairwise, all_of, of_all}
+use Rattle.star_lists.proofs.InOrder.{NotGreater, in_order_rises}
 use Rattle.star_lists.proofs.Rising.{NonDec, from_sorted}
 
 module _ {X : Type 0} (c : X → X → Ordering) (o : IsTotalOrder c) where
   abbrev lt : X → X → Bool
   lt x y = is_lt (c x y)
-
-  itself : (x : X) → c x x ≡ Equal
-  itself x = elim (c x x) as (λ r. c x x ≡ r → r ≡ Equal) [
-    | Less ↦ λ e. absurd (let f : Less ≡ Greater = sym e ∙ o.antisymm x x ∙ ap ordering_reverse e in cc)
-    | Equal ↦ λ e. refl
-    | Greater ↦ λ e. absurd (let f : Greater ≡ Less = sym e ∙ o.antisymm x x ∙ ap ordering_reverse e in cc)
-  ] refl
 
   -- less than one that is not greater than the next
   through : (y z w : X) → c y z ≡ Less → lt w z ≡ false → c y w ≡ Less
@@ -42,16 +38,20 @@ module _ {X : Type 0} (c : X → X → Ordering) (o : IsTotalOrder c) where
   -- nothing ties with what is less than the first of a rising list
   no_tie : (y z : X) (zs : List X) → c y z ≡ Less → AllByRecursion (λ w. lt w z ≡ false) zs → filter (ties lt y) zs ≡ []
   no_tie y z [] h n = refl
-  no_tie y z (w ∷ ws) h n = ap (λ b. cond b (w ∷ filter (ties lt y) ws) (filter (ties lt y) ws)) (tie_less y w (through y z w h n.0)) ∙ no_tie y z ws h n.1
+  no_tie y z (w ∷ ws) h n = ap (λ b. cond b (w ∷ filter (ties lt y) ws) (filter (ties lt y) ws)) (tie_less y w (through y z w h n.0))
+      ∙ no_tie y z ws h n.1
 
-  none_less : (y z : X) (ys zs : List X) → c y z ≡ Less → AllByRecursion (λ w. lt w z ≡ false) zs → filter (ties lt y) (y ∷ ys) ≡ filter (ties lt y) (z ∷ zs) → ⊥
+  none_less : (y z : X) (ys zs : List X) → c y z ≡ Less → AllByRecursion (λ w. lt w z ≡ false) zs
+      → filter (ties lt y) (y ∷ ys) ≡ filter (ties lt y) (z ∷ zs) → ⊥
   none_less y z ys zs h n same =
-      let left : filter (ties lt y) (y ∷ ys) ≡ y ∷ filter (ties lt y) ys = ap (λ b. cond b (y ∷ filter (ties lt y) ys) (filter (ties lt y) ys)) (tie_equal y y (itself y)) in
-      let right : filter (ties lt y) (z ∷ zs) ≡ [] = ap (λ b. cond b (z ∷ filter (ties lt y) zs) (filter (ties lt y) zs)) (tie_less y z h) ∙ no_tie y z zs h n in
+      let left : filter (ties lt y) (y ∷ ys) ≡ y ∷ filter (ties lt y) ys = ap (λ b. cond b (y ∷ filter (ties lt y) ys) (filter (ties lt y) ys)) (tie_equal y y (tied_itself o y)) in
+      let right : filter (ties lt y) (z ∷ zs) ≡ [] = ap (λ b. cond b (z ∷ filter (ties lt y) zs) (filter (ties lt y) zs)) (tie_less y z h)
+      ∙ no_tie y z zs h n in
       let e : y ∷ filter (ties lt y) ys ≡ [] = sym left ∙ same ∙ right in
       cc
 
-  tails : (x y : X) (ys zs : List X) → filter (ties lt x) (y ∷ ys) ≡ filter (ties lt x) (y ∷ zs) → filter (ties lt x) ys ≡ filter (ties lt x) zs
+  tails : (x y : X) (ys zs : List X) → filter (ties lt x) (y ∷ ys) ≡ filter (ties lt x) (y ∷ zs)
+      → filter (ties lt x) ys ≡ filter (ties lt x) zs
   tails x y ys zs h =
       elim (ties lt x y) as (λ b. cond b (y ∷ filter (ties lt x) ys) (filter (ties lt x) ys) ≡ cond b (y ∷ filter (ties lt x) zs) (filter (ties lt x) zs) → filter (ties lt x) ys ≡ filter (ties lt x) zs) [
         | true ↦ λ e. (let f : filter (ties lt x) ys ≡ filter (ties lt x) zs = cc in f)
@@ -63,10 +63,11 @@ module _ {X : Type 0} (c : X → X → Ordering) (o : IsTotalOrder c) where
   unfolding NonDec
   one_list [] [] p q h = refl
   one_list [] (z ∷ zs) p q h =
-      let e : [] ≡ z ∷ filter (ties lt z) zs = h z ∙ ap (λ b. cond b (z ∷ filter (ties lt z) zs) (filter (ties lt z) zs)) (tie_equal z z (itself z)) in
+      let e : [] ≡ z ∷ filter (ties lt z) zs = h z
+      ∙ ap (λ b. cond b (z ∷ filter (ties lt z) zs) (filter (ties lt z) zs)) (tie_equal z z (tied_itself o z)) in
       absurd (cc)
   one_list (y ∷ ys) [] p q h =
-      let e : y ∷ filter (ties lt y) ys ≡ [] = sym (ap (λ b. cond b (y ∷ filter (ties lt y) ys) (filter (ties lt y) ys)) (tie_equal y y (itself y))) ∙ h y in
+      let e : y ∷ filter (ties lt y) ys ≡ [] = sym (ap (λ b. cond b (y ∷ filter (ties lt y) ys) (filter (ties lt y) ys)) (tie_equal y y (tied_itself o y))) ∙ h y in
       absurd (cc)
   one_list (y ∷ ys) (z ∷ zs) p q h =
       let equal : c y z ≡ Equal = elim (c y z) as (λ r. c y z ≡ r → r ≡ Equal) [
@@ -74,22 +75,12 @@ module _ {X : Type 0} (c : X → X → Ordering) (o : IsTotalOrder c) where
         | Equal ↦ λ e. refl
         | Greater ↦ λ e. absurd (none_less z y zs ys (o.antisymm z y ∙ ap ordering_reverse e) p.0 (sym (h z)))
       ] refl in
-      let left : filter (ties lt y) (y ∷ ys) ≡ y ∷ filter (ties lt y) ys = ap (λ b. cond b (y ∷ filter (ties lt y) ys) (filter (ties lt y) ys)) (tie_equal y y (itself y)) in
+      let left : filter (ties lt y) (y ∷ ys) ≡ y ∷ filter (ties lt y) ys = ap (λ b. cond b (y ∷ filter (ties lt y) ys) (filter (ties lt y) ys)) (tie_equal y y (tied_itself o y)) in
       let right : filter (ties lt y) (z ∷ zs) ≡ z ∷ filter (ties lt y) zs = ap (λ b. cond b (z ∷ filter (ties lt y) zs) (filter (ties lt y) zs)) (tie_equal y z equal) in
       let both : y ∷ filter (ties lt y) ys ≡ z ∷ filter (ties lt y) zs = sym left ∙ h y ∙ right in
       let head : y ≡ z = cc in
       let rest : (x : X) → filter (ties lt x) ys ≡ filter (ties lt x) zs = λ x. tails x y ys zs (h x ∙ ap (λ w. filter (ties lt x) (w ∷ zs)) (sym head)) in
       λ i. head i ∷ one_list ys zs p.1 q.1 rest i
-
-  -- the list in order rises
-  keeps : (z x : X) (ys : List X) → lt x z ≡ false → AllByRecursion (λ y. lt y z ≡ false) ys → AllByRecursion (λ y. lt y z ≡ false) (put_before c x ys)
-  keeps z x [] h n = (h, tt)
-  keeps z x (y ∷ ys) h n =
-      elim (c x y) as (λ r. AllByRecursion (λ y. lt y z ≡ false) (by_order r (x ∷ y ∷ ys) (x ∷ y ∷ ys) (y ∷ put_before c x ys))) [
-        | Less ↦ (h, n)
-        | Equal ↦ (h, n)
-        | Greater ↦ (n.0, keeps z x ys h n.1)
-      ]
 
   not_greater : (x y w : X) → lt y x ≡ false → lt w y ≡ false → lt w x ≡ false
   not_greater x y w h n =
@@ -99,24 +90,20 @@ module _ {X : Type 0} (c : X → X → Ordering) (o : IsTotalOrder c) where
         | Greater ↦ λ e. refl
       ] refl
 
-  all_after : (x y : X) (ys : List X) → lt y x ≡ false → AllByRecursion (λ w. lt w y ≡ false) ys → AllByRecursion (λ w. lt w x ≡ false) ys
-  all_after x y [] h n = tt
-  all_after x y (w ∷ ws) h n = (not_greater x y w h n.0, all_after x y ws h n.1)
+  -- the list in order rises
+  turned : (x y : X) → NotGreater c x y → lt y x ≡ false
+  turned x y h = ap is_lt (o.antisymm y x) ∙ other_way (c x y) ∙ h
+    where
+      other_way : (r : Ordering) → is_lt (ordering_reverse r) ≡ is_gt r
+      other_way Less = refl
+      other_way Equal = refl
+      other_way Greater = refl
 
-  rises : (x : X) (ys : List X) → NonDec c o ys → NonDec c o (put_before c x ys)
+  from_pairwise : (xs : List X) → Pairwise (NotGreater c) xs → NonDec c o xs
   unfolding NonDec
-  rises x [] p = (tt, tt)
-  rises x (y ∷ ys) p =
-      elim (c x y) as (λ r. c x y ≡ r → NonDec c o (by_order r (x ∷ y ∷ ys) (x ∷ y ∷ ys) (y ∷ put_before c x ys))) [
-        | Less ↦ λ e. let b : lt y x ≡ false = ap is_lt (o.antisymm y x ∙ ap ordering_reverse e) in ((b, all_after x y ys b p.0), p)
-        | Equal ↦ λ e. let b : lt y x ≡ false = ap is_lt (o.antisymm y x ∙ ap ordering_reverse e) in ((b, all_after x y ys b p.0), p)
-        | Greater ↦ λ e. (keeps y x ys (ap is_lt e) p.0, rises x ys p.1)
-      ] refl
-
-  in_order_rises : (xs : List X) → NonDec c o (in_order c xs)
-  unfolding NonDec in_order
-  in_order_rises [] = tt
-  in_order_rises (x ∷ xs) = rises x (in_order c xs) (in_order_rises xs)
+  from_pairwise [] h = tt
+  from_pairwise (x ∷ xs) h =
+      (all_of (λ y. lt y x ≡ false) xs (λ y i. turned x y (of_all (NotGreater c x) xs h.0 y i)), from_pairwise xs h.1)
 
   -- and has the same ties
   swapped : (w x y : X) (l : List X) → c x y ≡ Greater → filter (ties lt w) (y ∷ x ∷ l) ≡ filter (ties lt w) (x ∷ y ∷ l)
@@ -161,7 +148,7 @@ module _ {X : Type 0} (c : X → X → Ordering) (o : IsTotalOrder c) where
   -- a sorted list with the same ties is the list in order
   pub stable_sort : (xs ys : List X) → IsSorted c ys → IsStable c xs ys → ys ≡ in_order c xs
   stable_sort xs ys up stable =
-      one_list ys (in_order c xs) (from_sorted c o ys up) (in_order_rises xs) (λ w. stable w ∙ sym (order_ties w xs))
+      one_list ys (in_order c xs) (from_sorted c o ys up) (from_pairwise (in_order c xs) (in_order_rises c o xs)) (λ w. stable w ∙ sym (order_ties w xs))
 
   one_way : (x y : X) → lt x y ≡ true → lt y x ≡ false
   one_way x y h =

@@ -4,7 +4,7 @@ use Rattle.std.specs.Prelude.{codes}
 use Rattle.std.specs.List.{flat_map}
 use Rattle.std.specs.Fmt.{decimal}
 use Rattle.std.proofs.lemmas.Bool.{cases_lt}
-use Rattle.std.proofs.lemmas.List.{append-nil, get_or_default}
+use Rattle.std.proofs.lemmas.List.{append-nil, get_or_default, same_from_push}
 use Rattle.star_io.specs.RecordLists.{stream_records}
 use Rattle.report_frame.specs.declared.version.Version.TheVariants.{One}
 use Rattle.report_frame.specs.Thresholds.{AreThresholds}
@@ -20,7 +20,6 @@ use Rattle.client_table.proofs.Places.{some-outcome}
 use Rattle.table_law.specs.Prefixes.{Values, prefixes}
 use Rattle.table_law.specs.Clear.{is_clear}
 use Rattle.table_law.specs.Reveals.{IsValue, IsRowOf, IsTableOf, RevealsOnly}
-use Rattle.table_law.proofs.Lists.{last_same}
 use Rattle.table_law.proofs.WholeTable.{stream_reveals}
 use Rattle.table_law.proofs.ClearTest.{clear_decides}
 use Rattle.command_words.specs.declared.command.Command.TheVariants.{Expect}
@@ -59,7 +58,7 @@ no_table_expected epoch thresholds seed input coins taken table.NoMemory all few
 two_last : (xs ys : List ℕ) (a b c d : ℕ) → xs ++ (a ∷ b ∷ []) ≡ ys ++ (c ∷ d ∷ []) → a ≡ c
 two_last xs ys a b c d e =
     let whole : (xs ++ a ∷ []) ++ b ∷ [] ≡ (ys ++ c ∷ []) ++ d ∷ [] = append_assoc xs (a ∷ []) (b ∷ []) ∙ e ∙ sym (append_assoc ys (c ∷ []) (d ∷ [])) in
-    (last_same xs ys a c (last_same (xs ++ a ∷ []) (ys ++ c ∷ []) b d whole).0).1
+    (same_from_push xs ys a c (same_from_push (xs ++ a ∷ []) (ys ++ c ∷ []) b d whole).0).1
 
 other_bytes : (a b : ℕ) → a ≡ 111 → b ≡ 115 → a ≡ b → ⊥
 other_bytes a b o s same = omega arith

@@ -11,9 +11,10 @@ use Rattle.star_io.specs.RecordLists.{stream_records}
 use Rattle.star_io.specs.declared.record.Record.{Record}
 use Rattle.star_io.specs.declared.record.TheConstants.{MAX_RECORDS}
 use Rattle.star_io.proofs.RecordListLaws.{are_stream_records, rest_none}
-use Rattle.layer_walk.specs.Laws.{EquallyOften, TellAlike}
+use Rattle.star_lists.specs.Elements.{EquallyOften}
+use Rattle.star_lists.proofs.Counted.{equally_long}
+use Rattle.layer_walk.specs.Laws.{TellAlike}
 use Rattle.layer_walk.specs.Reveal.{reveal_of}
-use Rattle.layer_walk.proofs.Counted.{equally_long}
 use Rattle.reveal_report.specs.RevealText.{text_of}
 use Rattle.book_file.specs.Book.{Book}
 use Rattle.book_file.specs.BookOf.{book_of}

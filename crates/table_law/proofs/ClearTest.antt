@@ -4,9 +4,8 @@ use Rattle.std.specs.Prelude.{◌↔◌}
 use Rattle.std.specs.Str.{bytes_eq}
 use Rattle.std.specs.Cmp.{first_so, second_so}
 use Rattle.std.specs.Cmp.Lexicographic.{bytes_decides}
-use Rattle.std.proofs.lemmas.Bool.{cases_lt, false≢true}
+use Rattle.std.proofs.lemmas.Bool.{cases_lt, false≢true, and_from}
 use Rattle.report_frame.specs.View.{head_of}
-use Rattle.star_lists.proofs.Bools.{both_true}
 use Rattle.tag_groups.specs.Keys.{same_head}
 use Rattle.tag_groups.proofs.Keys.{same_head_is, same_head_self}
 use Rattle.table_law.specs.Prefixes.{Values, value_at, same_front}
@@ -23,7 +22,7 @@ each_below test (suc n) h i lt = elim (cases_lt i n) [
 
 below_each : (test : ℕ → Bool) (n : ℕ) → ((i : ℕ) → i < n → test i ≡ true) → all_below test n ≡ true
 below_each test zero h = refl
-below_each test (suc n) h = both_true (all_below test n) (test n) (below_each test n (λ i lt. h i (omega arith))) (h n (omega arith))
+below_each test (suc n) h = and_from (all_below test n) (test n) (below_each test n (λ i lt. h i (omega arith))) (h n (omega arith))
 
 -- where the first holds, the second doesn't
 not_both : (a b : Bool) → (not a || not b) ≡ true → a ≡ true → b ≡ true → ⊥
@@ -55,7 +54,7 @@ module _ (table : List Values) (ks : List ℕ) (e : ℕ) (seed : List ℕ) where
   -- two rows
   keeps : (l i j : ℕ) → IsClearAt table ks e seed l → i < length table → j < length table → i ≢ j → keep_clear table ks e seed l i j ≡ true
   keeps l i j clear li lj apart =
-      both_true _ _
+      and_from _ _
       (never_both (same_front (suc l) (row_at i) (row_at j)) (eqb (row_report table ks e seed l i).x (row_report table ks e seed l j).x)
       (λ same tie. clear.points i j li lj apart same (eqb-true _ _ tie)))
       (of_three (same_front l (row_at i) (row_at j)) (bytes_eq (value_at (row_at i) l) (value_at (row_at j) l)) (same_head (head_of (row_report table ks e seed l i)) (head_of (row_report table ks e seed l j)))

@@ -3,10 +3,11 @@ use Rattle.std.proofs.Common.{◌≡◌, ℕ, zero, suc, ◌+◌, Bool, true, �
 use Rattle.std.specs.Prelude.{nat_le}
 use Rattle.std.specs.Cmp.{both_ways, first_so, second_so}
 use Rattle.std.specs.Cmp.Lexicographic.{bytes_decides}
+use Rattle.std.proofs.lemmas.Bool.{and_from}
+use Rattle.std.proofs.lemmas.List.{same_from_push}
+use Rattle.std.proofs.lemmas.List.Elements.{filter_agree}
 use Rattle.adss_commit.specs.Derivation.{context_check}
 use Rattle.layer_walk.specs.declared.path.Step.{Step}
-use Rattle.star_lists.proofs.Bools.{both_true}
-use Rattle.table_law.proofs.Lists.{last_same, filter_agree}
 use Rattle.report_frame.specs.declared.version.Version.TheVariants.{One}
 use Rattle.table_law.specs.Prefixes.{Values, value_at, same_front, how_many, is_open, step_at, path_to, entry}
 use Rattle.table_law.specs.Layers.{check_before, layer_context}
@@ -14,20 +15,20 @@ use Rattle.table_law.specs.Layers.{check_before, layer_context}
 pub front_itself : (n : ℕ) (a : Values) → same_front n a a ≡ true
 unfolding same_front
 front_itself zero a = refl
-front_itself (suc n) a = both_true _ _ (front_itself n a) ((bytes_decides (value_at a n) (value_at a n)).1 refl)
+front_itself (suc n) a = and_from _ _ (front_itself n a) ((bytes_decides (value_at a n) (value_at a n)).1 refl)
 
 pub front_turned : (n : ℕ) (a b : Values) → same_front n a b ≡ true → same_front n b a ≡ true
 unfolding same_front
 front_turned zero a b h = refl
 front_turned (suc n) a b h =
-    both_true _ _ (front_turned n a b (first_so (same_front n a b) _ h))
+    and_from _ _ (front_turned n a b (first_so (same_front n a b) _ h))
     ((bytes_decides (value_at b n) (value_at a n)).1 (sym ((bytes_decides (value_at a n) (value_at b n)).0 (second_so (same_front n a b) _ h))))
 
 pub front_joins : (n : ℕ) (a b c : Values) → same_front n a b ≡ true → same_front n b c ≡ true → same_front n a c ≡ true
 unfolding same_front
 front_joins zero a b c h k = refl
 front_joins (suc n) a b c h k =
-    both_true _ _ (front_joins n a b c (first_so (same_front n a b) _ h) (first_so (same_front n b c) _ k))
+    and_from _ _ (front_joins n a b c (first_so (same_front n a b) _ h) (first_so (same_front n b c) _ k))
     ((bytes_decides (value_at a n) (value_at c n)).1 ((bytes_decides (value_at a n) (value_at b n)).0 (second_so (same_front n a b) _ h) ∙ (bytes_decides (value_at b n) (value_at c n)).0 (second_so (same_front n b c) _ k)))
 
 pub front_before : (n : ℕ) (a b : Values) → same_front (suc n) a b ≡ true → same_front n a b ≡ true
@@ -40,7 +41,7 @@ front_last n a b h = (bytes_decides (value_at a n) (value_at b n)).0 (second_so 
 
 pub front_more : (n : ℕ) (a b : Values) → same_front n a b ≡ true → value_at a n ≡ value_at b n → same_front (suc n) a b ≡ true
 unfolding same_front
-front_more n a b h e = both_true _ _ h ((bytes_decides (value_at a n) (value_at b n)).1 e)
+front_more n a b h e = and_from _ _ h ((bytes_decides (value_at a n) (value_at b n)).1 e)
 
 -- rows that share their first values, and any row
 pub front_alike : (n : ℕ) (a b c : Values) → same_front n a b ≡ true → same_front n a c ≡ same_front n b c
@@ -67,7 +68,7 @@ pub path_apart : (ks : List ℕ) (n : ℕ) (a b : Values) → path_to ks n a ≡
 unfolding path_to same_front
 path_apart ks zero a b e = refl
 path_apart ks (suc n) a b e =
-    let l = last_same (path_to ks n a) (path_to ks n b) (step_at ks n a) (step_at ks n b) e in
+    let l = same_from_push (path_to ks n a) (path_to ks n b) (step_at ks n a) (step_at ks n b) e in
     front_more n a b (path_apart ks n a b l.0) (ap (λ (s : Step). s.value) l.1)
 
 pub length-path_to : (ks : List ℕ) (n : ℕ) (a : Values) → length (path_to ks n a) ≡ n

@@ -8,7 +8,7 @@ use Rattle.std.specs.Ordering.{is_eq}
 use Rattle.std.specs.Cmp.{first_so, second_so}
 use Rattle.std.specs.Cmp.Lexicographic.{bytes_decides}
 use Rattle.std.specs.declared.cmp.Ordering.{Ordering}
-use Rattle.star_lists.proofs.Bools.{both_true}
+use Rattle.std.proofs.lemmas.Bool.{and_from}
 use Rattle.table_law.specs.declared.fronts.Front.{Front}
 use Rattle.table_law.specs.contracts.fronts.FrontOrd.TheImpl as front_ord
 use Rattle.table_law.specs.contracts.fronts.FrontOrd.TheImpl.Laws.{matches_eq-law}
@@ -34,7 +34,7 @@ fronts_tie a b h =
 
 pub tied_fronts : (a b : Front) → a.before ≡ b.before → a.value ≡ b.value → is_eq (front_cmp a b) ≡ true
 tied_fronts a b before value =
-    sym (matches_eq-law a b) ∙ both_true _ _ (eq-eqb a.before b.before before) ((bytes_decides a.value b.value).1 value)
+    sym (matches_eq-law a b) ∙ and_from _ _ (eq-eqb a.before b.before before) ((bytes_decides a.value b.value).1 value)
 
 -- ---- a row's first one, told by the map
 

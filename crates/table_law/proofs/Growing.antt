@@ -1,10 +1,10 @@
 -- What one more row adds to the prefixes of a length, and how many rows begin with a front.
 use Rattle.std.proofs.Common.{◌≡◌, ℕ, suc, ◌+◌, ◌<◌, Bool, true, false, cond, not, ◌&&◌, List, [], ◌∷◌, ◌++◌, refl, sym, ap, ap₂, ◌∙◌, subst, map, filter, length, take, get_or, slice_index, replicate, arith, eqb}
 use Rattle.std.specs.Prelude.{if◌then◌else◌, nat_le, count_by}
-use Rattle.std.proofs.lemmas.List.{take_more, get_or-map, get_or_default, length-map}
+use Rattle.std.proofs.lemmas.List.{take_more, get_or-map, get_or_default, length-map, map-append}
 use Rattle.std.proofs.lemmas.List.Elements.{filter-append}
 use Rattle.star_lists.specs.FirstOnes.{first_ones}
-use Rattle.star_lists.proofs.Elements.{in_at, map-append}
+use Rattle.star_lists.proofs.Elements.{in_at}
 use Rattle.star_lists.proofs.FirstOnes.{first_ones_push, any_first}
 use Rattle.layer_walk.specs.declared.revealed.OpenedGroup.{OpenedGroup}
 use Rattle.table_law.specs.Prefixes.{Values, value_at, same_front, how_many, is_open, entry, prefixes_of}

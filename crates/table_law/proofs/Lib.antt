@@ -1,6 +1,3 @@
-pub mod Lists
-pub mod Joined
-pub mod PathOrder
 pub mod Frames
 pub mod FrontLaws
 pub mod Held

@@ -1,14 +1,12 @@
 -- Points and heads of rows, as the keys of a map.
-use Rattle.std.proofs.Common.{◌≡◌, ℕ, Bool, true, ◌&&◌, List, [], refl, sym, ap, ◌∙◌, subst, get_or, slice_index, eqb, eqb-true, eq-eqb}
+use Rattle.std.proofs.Common.{◌≡◌, ℕ, Bool, true, ◌&&◌, List, [], sym, ap, ◌∙◌, subst, get_or, slice_index, eqb, eqb-true, eq-eqb}
 use Rattle.std.specs.Str.{bytes_eq}
 use Rattle.std.specs.Ordering.{is_eq}
 use Rattle.std.specs.Cmp.{first_so, second_so}
 use Rattle.std.specs.declared.cmp.Ordering.{Ordering}
-use Rattle.report_frame.specs.declared.version.Version.{Version}
-use Rattle.report_frame.specs.declared.version.Version.TheVariants.{One, Two}
-use Rattle.report_frame.specs.contracts.version.VersionPartialEq.TheImpl as version_eq
-use Rattle.star_lists.proofs.Bools.{both_true}
-use Rattle.tag_groups.specs.Keys.{same_version, same_head}
+use Rattle.std.proofs.lemmas.Bool.{and_from}
+use Rattle.tag_groups.specs.Keys.{same_head}
+use Rattle.tag_groups.proofs.IndexLemmas.{version_tie}
 use Rattle.tag_groups.proofs.Keys.{same_head_is, same_head_self}
 use Rattle.table_law.specs.declared.points.PointMark.{PointMark}
 use Rattle.table_law.specs.contracts.points.PointMarkOrd.TheImpl as point_ord
@@ -35,7 +33,7 @@ points_tie a b h =
     (eqb-true a.first b.first (first_so _ _ same), eqb-true a.x b.x (second_so (eqb a.first b.first) _ same))
 
 pub tied_points : (a b : PointMark) → a.first ≡ b.first → a.x ≡ b.x → is_eq (point_cmp a b) ≡ true
-tied_points a b first x = sym (point_law a b) ∙ both_true _ _ (eq-eqb a.first b.first first) (eq-eqb a.x b.x x)
+tied_points a b first x = sym (point_law a b) ∙ and_from _ _ (eq-eqb a.first b.first first) (eq-eqb a.x b.x x)
 
 -- ---- heads
 
@@ -45,13 +43,6 @@ head_cmp = (head_ord.ghosts).cmp
 -- the mark of row j in layer l
 abbrev pub head_mark : ℕ → List ℕ → ℕ → List Values → List ℕ → ℕ → HeadMark
 head_mark e ks l table firsts j = record { before = slice_index firsts j; head = row_head e ks l table j }
-
--- versions are told apart as heads are
-version_tie : (a b : Version) → (version_eq.ghosts).eq a b ≡ same_version a b
-version_tie One One = refl
-version_tie One Two = refl
-version_tie Two One = refl
-version_tie Two Two = refl
 
 -- marks tie exactly where they are the same
 head_tie : (a b : HeadMark) → is_eq (head_cmp a b) ≡ (eqb a.before b.before && same_head a.head b.head)
@@ -66,4 +57,4 @@ heads_tie a b h =
 
 pub tied_heads : (a b : HeadMark) → a.before ≡ b.before → a.head ≡ b.head → is_eq (head_cmp a b) ≡ true
 tied_heads a b before head =
-    head_tie a b ∙ both_true _ _ (eq-eqb a.before b.before before) (subst (λ h. same_head a.head h ≡ true) head (same_head_self a.head))
+    head_tie a b ∙ and_from _ _ (eq-eqb a.before b.before before) (subst (λ h. same_head a.head h ≡ true) head (same_head_self a.head))

@@ -4,8 +4,9 @@ use Rattle.std.specs.Prelude.{if◌then◌else◌, nat_le}
 use Rattle.std.specs.Str.{bytes_eq}
 use Rattle.std.specs.Cmp.{both_ways}
 use Rattle.std.specs.Cmp.Lexicographic.{bytes_decides}
-use Rattle.std.proofs.lemmas.Bool.{cases_lt, lt-ltb, leb-true, le-leb}
+use Rattle.std.proofs.lemmas.Bool.{cases_lt, lt-ltb, leb-true, le-leb, and_from}
 use Rattle.std.proofs.lemmas.List.{length-map}
+use Rattle.std.proofs.lemmas.Simd.{map-map}
 use Rattle.report_frame.specs.declared.head.Head.{Head}
 use Rattle.report_frame.specs.Frame.{Fields}
 use Rattle.report_frame.specs.Laws.{InRange}
@@ -20,8 +21,10 @@ use Rattle.adss_commit.specs.declared.context.Context.{Context}
 use Rattle.adss_commit.specs.Derivation.{polynomial, context_head}
 use Rattle.nest_client.specs.Report.{client_of, coins, point_of as point_from, layer, frame_of}
 use Rattle.nest_client.proofs.Layers.{own_share}
-use Rattle.star_lists.proofs.Bools.{both_true}
 use Rattle.star_lists.proofs.Elements.{In, Pairwise, from_filter, in_at}
+use Rattle.star_lists.proofs.Inside.{from_map, pairwise_filter, pairwise_map}
+use Rattle.star_lists.proofs.Mapped.{filter-map, filter_agree_in, filter_both, filter_map_if, filter_map-of_map, none_made}
+use Rattle.star_lists.proofs.Counted.{length-filter-map}
 use Rattle.tag_groups.specs.Left.{point_of, points_left_of}
 use Rattle.tag_groups.proofs.Left.{from_left}
 use Rattle.tag_groups.proofs.AllLeft.{all_left}
@@ -33,17 +36,12 @@ use Rattle.layer_walk.specs.Members.{next_at}
 use Rattle.layer_walk.specs.Members.Next.{Last, Inner}
 use Rattle.layer_walk.specs.Laws.{honest}
 use Rattle.layer_walk.specs.Levels.{where_opened, stepped, next_row, next_rows}
-use Rattle.layer_walk.proofs.Gathered.{from_map}
-use Rattle.layer_walk.proofs.Mapped.{filter-map}
-use Rattle.layer_walk.proofs.MadeLists.{map-map}
 use Rattle.layer_walk.proofs.Same.{one_group, in_one_group}
-use Rattle.layer_walk.proofs.Counted.{length-filter-map}
 use Rattle.layer_walk.proofs.HonestRows.{honest_opens}
 use Rattle.table_law.specs.Prefixes.{Values, value_at, same_front, how_many, is_open, path_to}
 use Rattle.table_law.specs.Layers.{check_before, layer_context, layer_report, row_report}
 use Rattle.table_law.specs.Clear.{Clear}
 use Rattle.table_law.specs.Reveals.{IsRowOf, IsTableOf}
-use Rattle.table_law.proofs.Lists.{filter_agree_in, filter_both, filter_map_if, filter_map-of_map, none_made, pairwise_filter, pairwise_map}
 use Rattle.table_law.proofs.Held.{report_good, holds_next, holds_last}
 use Rattle.table_law.proofs.FrontLaws.{front_itself, front_turned, front_joins, front_before, front_more, open_same, path_same, path_apart, check_same, context_same}
 use Rattle.table_law.proofs.Placed.{Placed, placed, in_placed, placed_apart, placed_rows, level_row}
@@ -69,8 +67,8 @@ unfolding layer_report layer
 own_point e seed ks i l row =
     let c = layer_context e ks l row in
     let x = point_from (coins (client_of One e seed i) l) in
-    both_true _ _ (eq-eqb (value (polynomial c 0) x) _ (sym (own_share (client_of One e seed i) c [])))
-    (both_true _ _ (eq-eqb (value (polynomial c 1) x) _ refl) (eq-eqb (value (polynomial c 2) x) _ refl))
+    and_from _ _ (eq-eqb (value (polynomial c 0) x) _ (sym (own_share (client_of One e seed i) c [])))
+    (and_from _ _ (eq-eqb (value (polynomial c 1) x) _ refl) (eq-eqb (value (polynomial c 2) x) _ refl))
 
 own_head : (e : ℕ) (seed ks : List ℕ) (i l : ℕ) (row : Values) → head_of (layer_report e seed ks l i row) ≡ context_head (layer_context e ks l row)
 unfolding layer_report layer

@@ -4,17 +4,15 @@ use Rattle.std.specs.Prelude.{if◌then◌else◌, unwrap_or, count_by}
 use Rattle.std.specs.Option.{option_map}
 use Rattle.std.specs.List.{list_any}
 use Rattle.std.specs.Cmp.{both_ways}
-use Rattle.std.proofs.lemmas.Bool.{cases_lt, false≢true}
-use Rattle.std.proofs.lemmas.List.{take_more, get_or-map}
+use Rattle.std.proofs.lemmas.Bool.{cases_lt, false≢true, ne_eqb, or_right}
 use Rattle.std.proofs.lemmas.List.Folds.{list_any_more}
 use Rattle.std.proofs.lemmas.List.Sums.{length-filter}
 use Rattle.star_lists.specs.Places.{place_of}
 use Rattle.star_lists.proofs.Elements.{In, in_at}
-use Rattle.star_lists.proofs.Bools.{or_true}
+use Rattle.star_lists.proofs.Mapped.{filter_agree_in, filter-map}
 use Rattle.table_law.specs.Prefixes.{Values, value_at, same_front, how_many}
 use Rattle.table_law.specs.Fronts.{first_of, firsts_of}
 use Rattle.table_law.proofs.FrontLaws.{front_itself, front_turned, front_joins, front_before, front_last, front_more, front_alike}
-use Rattle.table_law.proofs.Lists.{filter_agree_in, filter-of_map}
 
 -- the place of an element that passes, where none before it does
 pub place_is : {X : Type 0} (test : X → Bool) (xs : List X) (p : ℕ) (d : X) → p < length xs → test (get_or xs p d) ≡ true → ((j : ℕ) → j < p → test (get_or xs j d) ≡ true → ⊥) → place_of test xs ≡ Some p
@@ -107,7 +105,7 @@ one_before f table (suc i) p le lt h =
     ∙ list_any_more f table i [] (omega arith)
     ∙ elim (cases_lt p i) [
       | inl less ↦ ap (λ b. b || f (get_or table i [])) (one_before f table i p (omega arith) less h)
-      | inr ge ↦ or_true (list_any f (take i table)) (f (get_or table i [])) (ap (λ n. f (get_or table n [])) {x = i} {y = p} (omega arith) ∙ h)
+      | inr ge ↦ or_right (list_any f (take i table)) (f (get_or table i [])) (ap (λ n. f (get_or table n [])) {x = i} {y = p} (omega arith) ∙ h)
     ]
 
 -- a row is its own first one exactly where no row before it begins with the same values
@@ -120,7 +118,7 @@ own_first table n i lt =
     elim (cases_lt r.place i) [
       | inl less ↦
           one_before (λ z. same_front n z row) table i r.place (omega arith) less (front_turned n row (get_or table r.place []) r.here)
-          ∙ sym (ap not (not_equal (first_of table n row) i (λ e. let both : first_of table n row ≡ i = e in omega arith)))
+          ∙ sym (ap not (ne_eqb (first_of table n row) i (λ e. let both : first_of table n row ≡ i = e in omega arith)))
       | inr ge ↦ elim (cases_lt i r.place) [
         | inl more ↦ absurd (false≢true (sym (r.before i more) ∙ front_itself n row))
         | inr le ↦
@@ -130,9 +128,6 @@ own_first table n i lt =
       ]
     ]
   where
-    not_equal : (a b : ℕ) → (a ≡ b → ⊥) → eqb a b ≡ false
-    not_equal a b apart = elim (eqb a b) as (λ t. eqb a b ≡ t → t ≡ false) [ true ↦ λ e. absurd (apart (eqb-true a b e)) | false ↦ λ e. refl ] refl
-
     front_sides : (n : ℕ) (a b : Values) → same_front n a b ≡ same_front n b a
     front_sides n a b = both_ways (same_front n a b) (same_front n b a) (front_turned n a b) (front_turned n b a)
 
@@ -141,7 +136,7 @@ pub counted : (table : List Values) (n : ℕ) (row : Values) → In row table �
 unfolding firsts_of
 counted table n row i =
     sym (length-filter (λ m. eqb m (first_of table n row)) (map (first_of table n) table))
-    ∙ ap length (filter-of_map (λ m. eqb m (first_of table n row)) (first_of table n) table)
+    ∙ ap length (filter-map (λ m. eqb m (first_of table n row)) (λ r. eqb (first_of table n r) (first_of table n row)) (first_of table n) (λ r. refl) table)
     ∙ length-mapped
     ∙ ap length (filter_agree_in (λ r. eqb (first_of table n r) (first_of table n row)) (same_front n row) table (λ r j.
     both_ways (eqb (first_of table n r) (first_of table n row)) (same_front n row r)

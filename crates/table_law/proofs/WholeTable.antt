@@ -3,7 +3,7 @@ use Rattle.std.proofs.Common.{◌≡◌, ◌≢◌, ℕ, zero, suc, ◌+◌, ◌
 use Rattle.std.specs.Prelude.{if◌then◌else◌, nat_le}
 use Rattle.std.specs.List.Sorted.{IsStrictlySortedBy}
 use Rattle.std.specs.Cmp.{first_so, second_so}
-use Rattle.std.proofs.lemmas.Bool.{cases_lt}
+use Rattle.std.proofs.lemmas.Bool.{cases_lt, and_from}
 use Rattle.std.proofs.lemmas.List.Elements.{All-append, All-cons, All-nil}
 use Rattle.std.proofs.lemmas.List.FromFn.{get_or-map-range_with_len, length-map-range_with_len}
 use Rattle.report_frame.specs.Thresholds.{AreThresholds}
@@ -17,10 +17,13 @@ use Rattle.nest_client.specs.Stream.{row_frame, table_frames, table_records}
 use Rattle.star_lists.specs.FirstOnes.{first_ones}
 use Rattle.star_lists.specs.Ascending.{in_order}
 use Rattle.star_lists.specs.Numbered.{joined_below}
-use Rattle.star_lists.proofs.Bools.{both_true}
 use Rattle.star_lists.proofs.Elements.{In, from_filter, in_filter, filter_whole}
 use Rattle.star_lists.proofs.FirstOnes.{in_firsts}
 use Rattle.star_lists.proofs.Rising.{same_rising}
+use Rattle.star_lists.proofs.Inside.{pairwise_append, from_filter_map, firsts_differ, from_in_order, in_in_order, in_map, from_map, in_filter_map, first_one_for, pairwise_filter, pairwise_map}
+use Rattle.star_lists.proofs.InOrder.{rising_in_order}
+use Rattle.star_lists.proofs.Mapped.{none_made, none_kept}
+use Rattle.star_lists.proofs.Numbered.{from_joined, in_joined, nothing_joined}
 use Rattle.layer_walk.specs.declared.outcome.Outcome.{Outcome}
 use Rattle.layer_walk.specs.declared.outcome.Outcome.TheVariants.{Opened, Few}
 use Rattle.layer_walk.specs.declared.revealed.OpenedGroup.{OpenedGroup}
@@ -30,20 +33,15 @@ use Rattle.layer_walk.specs.Members.{next_at}
 use Rattle.layer_walk.specs.Bodies.{refusal_in}
 use Rattle.layer_walk.specs.Levels.{where_opened, path_with, next_rows, rows_from, refused_row, refusals_at, opened_row, opened_at, is_no_line, is_bad_value, counts_of, counts_at}
 use Rattle.layer_walk.specs.Reveal.{outer_rows, by_path, by_index, level_count, groups_told, refusals_told, levels_told, reveal_of}
-use Rattle.layer_walk.proofs.Inside.{pairwise_append, from_filter_map, firsts_differ, from_in_order, in_in_order}
-use Rattle.layer_walk.proofs.Gathered.{in_map, from_map, in_filter_map, first_one_for}
-use Rattle.layer_walk.proofs.Order.{rising_in_order}
 use Rattle.layer_walk.proofs.WholePaths.{PathsApart}
 use Rattle.layer_walk.proofs.Same.{itself, joins}
 use Rattle.layer_walk.proofs.AlikeReveal.{same_opened}
-use Rattle.layer_walk.proofs.WholeReveal.{by_path_total, groups_rise}
+use Rattle.layer_walk.proofs.WholeReveal.{groups_rise, paths_untied}
+use Rattle.layer_walk.proofs.Orders.{path_total}
 use Rattle.table_law.specs.Prefixes.{Values, value_at, same_front, how_many, is_open, path_to, entry, prefixes_of, prefixes}
 use Rattle.table_law.specs.Layers.{layer_report}
 use Rattle.table_law.specs.Clear.{Clear}
 use Rattle.table_law.specs.Reveals.{IsTableOf, IsClean, RevealsOnly}
-use Rattle.table_law.proofs.Lists.{none_made, none_kept, pairwise_filter, pairwise_map}
-use Rattle.table_law.proofs.Joined.{from_joined, in_joined, nothing_joined}
-use Rattle.table_law.proofs.PathOrder.{paths_untied}
 use Rattle.table_law.proofs.FrontLaws.{front_itself, front_joins, open_same, path_apart, length-path_to, entry_same}
 use Rattle.table_law.proofs.Placed.{Placed, placed, placed_rows, level_row, outer_placed, no_outer_refusals, own_frame}
 use Rattle.table_law.proofs.OneLevel.{points_counted, members_counted, outcome_is, next_inner, next_last, next_rows_are, no_rows_after}
@@ -110,7 +108,7 @@ module _ (e : ℕ) (seed ks : List ℕ) (table : List Values) (low : e < 2 ^ 32)
           | true ↦ λ enough h.
               let it : entry table ks (suc l) p.row ≡ g = cc in
               let w = first_one_for (same_front (suc l)) (front_itself (suc l)) (front_joins (suc l)) p.row table inside in
-              let free : is_open table ks (suc l) w.0 ≡ true = open_same table ks (suc l) w.0 p.row w.2 ∙ both_true (is_open table ks l p.row) (nat_le (slice_index ks l) (how_many table (suc l) p.row)) k.1 enough in
+              let free : is_open table ks (suc l) w.0 ≡ true = open_same table ks (suc l) w.0 p.row w.2 ∙ and_from (is_open table ks l p.row) (nat_le (slice_index ks l) (how_many table (suc l) p.row)) k.1 enough in
               subst (λ g. In g (map (entry table ks (suc l)) (filter (is_open table ks (suc l)) (first_ones (same_front (suc l)) table)))) (entry_same table ks (suc l) w.0 p.row w.2 ∙ it)
               (in_map (entry table ks (suc l)) w.0 (filter (is_open table ks (suc l)) (first_ones (same_front (suc l)) table)) (in_filter (is_open table ks (suc l)) (first_ones (same_front (suc l)) table) w.0 w.1 free))
           | false ↦ λ few h. absurd (cc)
@@ -202,7 +200,7 @@ module _ (e : ℕ) (seed ks : List ℕ) (table : List Values) (low : e < 2 ^ 32)
 
   pub prefixes_rise : IsStrictlySortedBy by_path (prefixes table ks)
   unfolding prefixes
-  prefixes_rise = rising_in_order by_path by_path_total _ (paths_untied _ (joined_apart (length ks)))
+  prefixes_rise = rising_in_order by_path path_total _ (paths_untied _ (joined_apart (length ks)))
 
   -- ---- all levels
 
@@ -245,7 +243,7 @@ module _ (e : ℕ) (seed ks : List ℕ) (table : List Values) (low : e < 2 ^ 32)
       let joined = joined_below (λ l. prefixes_of table ks (suc l)) (length ks) in
       let told : groups_told e (outer_rows e records) level_count ≡ groups_told e start level_count = ap (λ rs. groups_told e rs level_count) first in
       record {
-        groups = same_rising by_path by_path_total (reveal_of e records).groups (prefixes table ks) (groups_rise e records) prefixes_rise
+        groups = same_rising by_path path_total (reveal_of e records).groups (prefixes table ks) (groups_rise e records) prefixes_rise
             (λ g i. in_in_order by_path g joined (groups_over g (subst (In g) told (from_in_order by_path g (groups_told e (outer_rows e records) level_count) i))))
             (λ g i. in_in_order by_path g (groups_told e (outer_rows e records) level_count) (subst (In g) (sym told) (groups_back g (from_in_order by_path g joined i))));
         refusals = ap (in_order by_index) ((λ i. no_outer_refusals e seed ks table low t good i ++ refusals_told e (first i) level_count) ∙ no_refusals);

@@ -3,9 +3,9 @@ use Rattle.std.proofs.Common.{◌≡◌, true, false, not, ◌||◌, List, [], �
 use Rattle.std.specs.Cmp.Lexicographic.{bytes_decides}
 use Rattle.std.specs.Str.{bytes_eq}
 use Rattle.std.specs.declared.cmp.Ordering.TheVariants.{Equal}
+use Rattle.std.proofs.lemmas.Bool.{or_right}
 use Rattle.shamir_limbs.specs.declared.share.Point.{Point}
 use Rattle.star_lists.specs.Ascending.{ascending}
-use Rattle.star_lists.proofs.Bools.{or_true}
 use Rattle.star_lists.proofs.Elements.{In, Pairwise, of_all, all_of, true_all, filter_whole}
 use Rattle.star_lists.proofs.Ascending.{from_ascending, length_ascending}
 use Rattle.tag_groups.specs.Left.{x_cmp, is_lone, points_left_of}
@@ -22,7 +22,7 @@ same_or_apart (r ∷ points) h p q (inr i) (inr j) = same_or_apart points h.1 p 
 all_lone : (points : List Point) → Pairwise (λ (p q : Point). p.x ≡ q.x → ⊥) points → (p : Point) → In p points → is_lone points p ≡ true
 all_lone points h p i =
     true_all (λ (q : Point). not (eqb q.x p.x) || bytes_eq q.y p.y) points (λ q j. elim (same_or_apart points h q p j i) [
-      | inl e ↦ or_true (not (eqb q.x p.x)) (bytes_eq q.y p.y) ((bytes_decides q.y p.y).1 (ap (λ (t : Point). t.y) e))
+      | inl e ↦ or_right (not (eqb q.x p.x)) (bytes_eq q.y p.y) ((bytes_decides q.y p.y).1 (ap (λ (t : Point). t.y) e))
       | inr apart ↦ elim (eqb q.x p.x) as (λ b. eqb q.x p.x ≡ b → (not b || bytes_eq q.y p.y) ≡ true) [
         | true ↦ λ e. absurd (apart (eqb-true q.x p.x e))
         | false ↦ λ e. refl

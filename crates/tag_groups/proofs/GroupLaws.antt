@@ -1,6 +1,6 @@
 -- Laws of the groups of rows.
 use Rattle.std.proofs.Common.{◌≡◌, ℕ, zero, suc, ◌<◌, true, false, ◌||◌, List, [], ◌∷◌, length, refl, sym, ap, ◌∙◌, subst, map, arith, get_or}
-use Rattle.std.proofs.lemmas.Bool.{false≢true}
+use Rattle.std.proofs.lemmas.Bool.{false≢true, or_parts}
 use Rattle.std.proofs.lemmas.List.{length-map}
 use Rattle.std.proofs.lemmas.List.Elements.{All-map}
 use Rattle.std.specs.List.{All, AllPairs, Contains, list_any}
@@ -10,7 +10,6 @@ use Rattle.tag_groups.specs.Keys.{same_key}
 use Rattle.tag_groups.specs.Grouped.{in_group, group_of, groups_of}
 use Rattle.tag_groups.specs.Laws.{AreMembers, AreInside, AreApart, HasRow}
 use Rattle.tag_groups.proofs.Keys.{same_key_of, through}
-use Rattle.star_lists.proofs.Bools.{left_false, right_false}
 use Rattle.star_lists.proofs.FirstOnes.{Apart, apart_firsts, any_first, in_firsts}
 use Rattle.star_lists.proofs.Elements.{in_from_Contains, Contains-from_in, in_at, any_in}
 use Rattle.star_lists.specs.FirstOnes.{first_ones}
@@ -46,8 +45,8 @@ heads_all P Q rows f all = All-map Q (group_of rows) (first_ones same_key rows) 
 
 apart_later : (f : RowView) (fs : List RowView) (k : ℕ) (d : RowView) → list_any (same_key f) fs ≡ false → k < length fs → same_key f (get_or fs k d) ≡ false
 apart_later f [] k d h lt = absurd (omega (arith, lt))
-apart_later f (r ∷ rs) zero d h lt = left_false (same_key f r) (list_any (same_key f) rs) h
-apart_later f (r ∷ rs) (suc k) d h lt = apart_later f rs k d (right_false (same_key f r) (list_any (same_key f) rs) h) (omega (arith, lt))
+apart_later f (r ∷ rs) zero d h lt = (or_parts (same_key f r) (list_any (same_key f) rs) h).0
+apart_later f (r ∷ rs) (suc k) d h lt = apart_later f rs k d (or_parts (same_key f r) (list_any (same_key f) rs) h).1 (omega (arith, lt))
 
 apart_places : (rows fs : List RowView) → Apart same_key fs → AllPairs AreApart (map (group_of rows) fs)
 apart_places rows [] h i j d lt below = absurd (omega (arith, below))

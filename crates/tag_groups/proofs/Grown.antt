@@ -1,7 +1,7 @@
 -- One more row, and the groups.
 use Rattle.std.proofs.Common.{◌≡◌, ℕ, ◌+◌, ◌≤◌, Bool, true, false, ◌||◌, List, [], ◌∷◌, ◌++◌, length, refl, sym, ap, ◌∙◌, subst, map, append-nil}
-use Rattle.std.proofs.lemmas.List.{length-map}
-use Rattle.std.proofs.lemmas.Bool.{false≢true}
+use Rattle.std.proofs.lemmas.List.{length-map, map-append}
+use Rattle.std.proofs.lemmas.Bool.{false≢true, or_parts}
 use Rattle.std.specs.List.{list_any}
 use Rattle.std.specs.Prelude.{if◌then◌else◌}
 use Rattle.report_frame.specs.View.{head_of}
@@ -10,12 +10,10 @@ use Rattle.tag_groups.specs.Keys.{same_key, key_of}
 use Rattle.tag_groups.specs.Grouped.{group_of, groups_of}
 use Rattle.tag_groups.specs.Index.{with_member, joined}
 use Rattle.tag_groups.proofs.Keys.{same_key_is, same_key_of, through}
-use Rattle.star_lists.proofs.Elements.{map-append}
 use Rattle.star_lists.proofs.Places.{places_more}
 use Rattle.star_lists.proofs.FirstOnes.{first_ones_push, Apart, apart_firsts, any_first, few_firsts}
 use Rattle.star_lists.specs.Places.{places_from, places}
 use Rattle.star_lists.specs.FirstOnes.{first_ones}
-use Rattle.star_lists.proofs.Bools.{left_false, right_false}
 
 -- no row has x's key, so x's group has no place yet
 no_places : (x : RowView) (i : ℕ) (rows : List RowView) → list_any (λ z. same_key z x) rows ≡ false → places_from i (same_key x) rows ≡ []
@@ -24,8 +22,8 @@ no_places x i (y ∷ ys) h =
     elim (same_key x y) as (λ b. same_key x y ≡ b → (if b then i ∷ places_from (i + 1) (same_key x) ys else places_from (i + 1) (same_key x) ys) ≡ []) [
       | true ↦ λ e.
           let is = same_key_is x y e in
-          absurd (false≢true (sym (left_false (same_key y x) (list_any (λ z. same_key z x) ys) h) ∙ same_key_of y x (sym is.0) (sym is.1)))
-      | false ↦ λ e. no_places x (i + 1) ys (right_false (same_key y x) (list_any (λ z. same_key z x) ys) h)
+          absurd (false≢true (sym (or_parts (same_key y x) (list_any (λ z. same_key z x) ys) h).0 ∙ same_key_of y x (sym is.0) (sym is.1)))
+      | false ↦ λ e. no_places x (i + 1) ys (or_parts (same_key y x) (list_any (λ z. same_key z x) ys) h).1
     ] refl
 
 module _ (rows more : List RowView) (x : RowView) (grown : more ≡ rows ++ x ∷ []) where
@@ -43,10 +41,10 @@ module _ (rows more : List RowView) (x : RowView) (grown : more ≡ rows ++ x �
         | true ↦ λ likes.
             let a = same_key_is f x e in
             let b = same_key_is r x likes in
-            absurd (false≢true (sym (left_false (same_key f r) (list_any (same_key f) rs) h) ∙ same_key_of f r (a.0 ∙ sym b.0) (a.1 ∙ sym b.1)))
+            absurd (false≢true (sym (or_parts (same_key f r) (list_any (same_key f) rs) h).0 ∙ same_key_of f r (a.0 ∙ sym b.0) (a.1 ∙ sym b.1)))
         | false ↦ λ _. refl
       ] refl in
-      λ i. stays r apart i ∷ all_stay f rs e (right_false (same_key f r) (list_any (same_key f) rs) h) i
+      λ i. stays r apart i ∷ all_stay f rs e (or_parts (same_key f r) (list_any (same_key f) rs) h).1 i
 
   firsts_grown : (fs : List RowView) → (list_any (λ z. same_key z x) fs ≡ false → places (same_key x) rows ≡ []) → Apart same_key fs →
       map (group_of more) fs ++ (if list_any (λ z. same_key z x) fs then [] else group_of more x ∷ []) ≡ joined (key_of x) (length rows) (map (group_of rows) fs)

@@ -2,6 +2,7 @@
 use Rattle.std.proofs.Common.{◌≡◌, ℕ, zero, suc, ◌<◌, Bool, true, false, cond, ◌&&◌, List, [], ◌∷◌, ◌++◌, Option, Some, None, length, refl, sym, ap, ◌∙◌, subst, get_or, eqb, eqb-true, eq-eqb, arith}
 use Rattle.std.proofs.Math.ListN.{set}
 use Rattle.std.proofs.lemmas.Option.{same_Some, none-some}
+use Rattle.std.proofs.lemmas.Bool.{and_right}
 use Rattle.std.specs.Option.{option_map}
 use Rattle.std.specs.Prelude.{if◌then◌else◌, Result, Ok, Err, OnOk, OnErr, is_ok}
 use Rattle.std.specs.List.{AllPairs}
@@ -70,7 +71,7 @@ place_kept key q n p (f ∷ fs) e =
     ] e
 
 -- versions are told apart as heads are
-version_tie : (a b : Version) → (version_eq.ghosts).eq a b ≡ same_version a b
+pub version_tie : (a b : Version) → (version_eq.ghosts).eq a b ≡ same_version a b
 version_tie One One = refl
 version_tie One Two = refl
 version_tie Two One = refl
@@ -90,11 +91,6 @@ one_key key f g h k = (
   same_head_is f.head key.head (second_so (eqb f.parent key.parent) _ h) ∙ sym (same_head_is g.head key.head (second_so (eqb g.parent key.parent) _ k)),
 )
 
--- nothing holds beside what doesn't
-no_more : (b : Bool) → (b && false) ≡ false
-no_more true = refl
-no_more false = refl
-
 -- the map's order tells keys apart as groups do: where the keys are one, so are the fronts of their tags
 pub rank_tie : (key q : Key) (n : ℕ) → is_eq (rank_cmp (rank_of key) (rank_of q)) ≡ has_key q (new_group key n)
 rank_tie key q n =
@@ -103,7 +99,7 @@ rank_tie key q n =
     sym (matches_eq-law (rank_of key) (rank_of q)) ∙ ap (λ v. fronts && same v) (version_tie key.head.version q.head.version)
     ∙ elim (has_key q (new_group key n)) as (λ b. has_key q (new_group key n) ≡ b → (fronts && b) ≡ b) [
       | true ↦ λ h. ap (λ b. b && true) (eq-eqb _ _ (ap (λ (k : Key). front_of k.head.tag) (key_is key q n h)))
-      | false ↦ λ h. no_more fronts
+      | false ↦ λ h. and_right fronts false refl
     ] refl
 
 -- a group that was not found begins, and the map has its place

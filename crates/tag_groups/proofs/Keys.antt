@@ -1,7 +1,7 @@
 -- Rows of one key, and the groups of one more row.
 use Rattle.std.proofs.Common.{◌≡◌, ℕ, ◌+◌, ◌<◌, Bool, true, false, ◌&&◌, List, [], ◌∷◌, ◌++◌, length, refl, sym, ap, ◌∙◌, subst, map, eqb-true, eq-eqb, eqb, take, get_or}
-use Rattle.std.proofs.lemmas.List.{take_more}
-use Rattle.std.proofs.lemmas.Bool.{false≢true}
+use Rattle.std.proofs.lemmas.List.{take_more, map-append}
+use Rattle.std.proofs.lemmas.Bool.{false≢true, and_from}
 use Rattle.std.specs.List.{list_any}
 use Rattle.std.specs.Prelude.{if◌then◌else◌}
 use Rattle.std.specs.Cmp.Lexicographic.{bytes_decides}
@@ -16,17 +16,16 @@ use Rattle.tag_groups.specs.Keys.{same_version, same_key, same_head}
 use Rattle.tag_groups.specs.Grouped.{in_group, any_group, group_of}
 use Rattle.star_lists.proofs.FirstOnes.{first_ones_push}
 use Rattle.star_lists.specs.FirstOnes.{first_ones}
-use Rattle.star_lists.proofs.Elements.{list_any-map, map-append}
-use Rattle.star_lists.proofs.Bools.{both_true}
+use Rattle.star_lists.proofs.Elements.{list_any-map}
 use Rattle.std.specs.Cmp.{first_so, second_so}
 
-same_version_is : (a b : Version) → same_version a b ≡ true → a ≡ b
+pub same_version_is : (a b : Version) → same_version a b ≡ true → a ≡ b
 same_version_is One One h = refl
 same_version_is One Two h = absurd (false≢true h)
 same_version_is Two One h = absurd (false≢true h)
 same_version_is Two Two h = refl
 
-same_version_self : (a : Version) → same_version a a ≡ true
+pub same_version_self : (a : Version) → same_version a a ≡ true
 same_version_self One = refl
 same_version_self Two = refl
 
@@ -45,7 +44,7 @@ same_head_is a b h =
 
 pub same_head_self : (a : Head) → same_head a a ≡ true
 same_head_self a =
-    both_true _ _ (same_version_self a.version) (both_true _ _ (eq-eqb a.k a.k refl) (both_true _ _ ((bytes_decides a.tag a.tag).1 refl) (both_true _ _ ((bytes_decides a.check a.check).1 refl) ((bytes_decides a.boxed a.boxed).1 refl))))
+    and_from _ _ (same_version_self a.version) (and_from _ _ (eq-eqb a.k a.k refl) (and_from _ _ ((bytes_decides a.tag a.tag).1 refl) (and_from _ _ ((bytes_decides a.check a.check).1 refl) ((bytes_decides a.boxed a.boxed).1 refl))))
 
 -- rows of one group have one parent and one head
 pub same_key_is : (a b : RowView) → same_key a b ≡ true → (a.parent ≡ b.parent) × (head_of a.report ≡ head_of b.report)
@@ -53,7 +52,7 @@ same_key_is a b h = (eqb-true a.parent b.parent (first_so _ _ h), same_head_is (
 
 pub same_key_of : (a b : RowView) → a.parent ≡ b.parent → head_of a.report ≡ head_of b.report → same_key a b ≡ true
 same_key_of a b p q =
-    both_true _ _ (eq-eqb a.parent b.parent p) (subst (λ h. same_head (head_of a.report) h ≡ true) q (same_head_self (head_of a.report)))
+    and_from _ _ (eq-eqb a.parent b.parent p) (subst (λ h. same_head (head_of a.report) h ≡ true) q (same_head_self (head_of a.report)))
 
 -- what is like a third is alike
 pub through : (x y z : RowView) → same_key y z ≡ true → same_key z x ≡ true → same_key y x ≡ true

@@ -1,7 +1,7 @@
 -- The points whose neighbours have another x are those that are left, in a list that is sorted by x and has no two equal
 -- points side by side.
 use Rattle.std.proofs.Common.{◌≡◌, ℕ, ◌<◌, ◌≤◌, Bool, true, false, not, eqb, eqb-true, eq-eqb, ◌&&◌, ◌||◌, List, [], ◌∷◌, inl, inr, Option, Some, None, refl, sym, ap, ◌∙◌, subst, arith}
-use Rattle.std.proofs.lemmas.Bool.{false≢true}
+use Rattle.std.proofs.lemmas.Bool.{false≢true, or_right}
 use Rattle.std.proofs.lemmas.Cmp.{nat_cmp_total, on_total}
 use Rattle.std.proofs.lemmas.List.Kept.{IsStrictlySortedBy-filter}
 use Rattle.std.specs.Prelude.{if◌then◌else◌}
@@ -14,7 +14,6 @@ use Rattle.shamir_limbs.specs.declared.share.Point.{Point}
 use Rattle.tag_groups.specs.Left.{x_cmp, is_lone, points_left_of}
 use Rattle.tag_groups.specs.Apart.{is_other, first_x, apart_from}
 use Rattle.star_lists.proofs.Ascending.{rising_ascending, tied_ascending, from_tied, from_ascending}
-use Rattle.star_lists.proofs.Bools.{or_true}
 use Rattle.star_lists.proofs.Rising.{same_rising}
 use Rattle.star_lists.proofs.Elements.{In, all_true, true_all, same_all, in_filter, from_filter, all_of}
 use Rattle.star_lists.specs.Ascending.{ascending}
@@ -43,7 +42,7 @@ spares_apart : (z q : Point) → (q.x ≡ z.x → ⊥) → spares z q ≡ true
 spares_apart z q apart = ap (λ b. b || bytes_eq q.y z.y) (other_so q.x z.x apart)
 
 spares_itself : (z : Point) → spares z z ≡ true
-spares_itself z = or_true (not (eqb z.x z.x)) (bytes_eq z.y z.y) ((bytes_decides z.y z.y).1 refl)
+spares_itself z = or_right (not (eqb z.x z.x)) (bytes_eq z.y z.y) ((bytes_decides z.y z.y).1 refl)
 
 -- one that is spared at the same x is the point itself
 pub spared_is : (z q : Point) → spares z q ≡ true → q.x ≡ z.x → q ≡ z

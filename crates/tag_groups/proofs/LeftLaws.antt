@@ -5,8 +5,7 @@ use Rattle.std.proofs.lemmas.List.{length-map}
 use Rattle.std.proofs.lemmas.Map.Keys.{Less-from_sorted}
 use Rattle.std.specs.Ordering.{nat_cmp}
 use Rattle.std.specs.declared.cmp.Ordering.TheVariants.{Less}
-use Rattle.shamir_limbs.specs.KeyLine.{AreDistinct}
-use Rattle.shamir_limbs.specs.KeyLine.{xs_of}
+use Rattle.shamir_limbs.specs.KeyLine.{AreDistinct, xs_of}
 use Rattle.shamir_limbs.specs.declared.share.Point.{Point}
 use Rattle.tag_groups.specs.RowView.{RowView}
 use Rattle.tag_groups.specs.Laws.{IsLeft}

@@ -1,6 +1,6 @@
 -- What a sort by x and the removal of doubles side by side leave.
 use Rattle.std.proofs.Common.{◌≡◌, ℕ, suc, ◌<◌, ◌≤◌, Bool, true, false, cond, eqb, eqb-true, eq-eqb, ◌&&◌, List, [], ◌∷◌, None, length, refl, sym, ap, ◌∙◌, subst, arith, get_or}
-use Rattle.std.proofs.lemmas.Bool.{false≢true}
+use Rattle.std.proofs.lemmas.Bool.{false≢true, and_from}
 use Rattle.std.proofs.lemmas.List.Kept.{Contains-dedup, Contains-from_dedup}
 use Rattle.std.proofs.lemmas.List.Filters.{dedup_is}
 use Rattle.std.proofs.lemmas.List.Sorted.{Contains-permutation, IsPermutation-sym}
@@ -15,7 +15,6 @@ use Rattle.tag_groups.specs.Left.{points_left_of}
 use Rattle.tag_groups.specs.Apart.{apart_from}
 use Rattle.tag_groups.proofs.Left.{Up, lower, NotFirst, Differ, apart_is_left}
 use Rattle.star_lists.proofs.Elements.{In, in_from_Contains, Contains-from_in}
-use Rattle.star_lists.proofs.Bools.{both_true}
 
 up_of : (b : ℕ) (ps : List Point) → ((d : Point) → 0 < length ps → b ≤ (get_or ps 0 d).x) → IsNonDecreasingBy (λ (p : Point). p.x) ps → Up b ps
 up_of b [] f up = tt
@@ -31,7 +30,7 @@ module _ (E : Point → Point → Bool) (same : (a b : Point) → E a b ≡ (eqb
       λ i. record { x = x i; y = y i }
 
   itself : (a : Point) → E a a ≡ true
-  itself a = same a a ∙ both_true _ _ (eq-eqb a.x a.x refl) ((bytes_decides a.y a.y).1 refl)
+  itself a = same a a ∙ and_from _ _ (eq-eqb a.x a.x refl) ((bytes_decides a.y a.y).1 refl)
 
   of_same : (a b : Point) → a ≡ b → E a b ≡ true
   of_same a b e = subst (λ w. E a w ≡ true) e (itself a)

@@ -2,7 +2,7 @@ use Rattle.std.proofs.Common.{◌≡◌, ◌+◌, ◌++◌, [], ◌∷◌, refl,
 use Rattle.std.specs.Map.{values_of}
 use Rattle.std.specs.Map.Iter.{deref_pair}
 use Rattle.std.proofs.lemmas.Map.Iter.{rest_more}
-use Rattle.star_lists.proofs.Elements.{map-append}
+use Rattle.std.proofs.lemmas.List.{map-append}
 use Rattle.book_file.specs.BookOf.{entries_sum}
 use Rattle.book_file.proofs.Entries.{Rises}
 use Rattle.book_file.proofs.Sums.{sum_nil, sum_more, rises_front, taken_so_far, total_push}

@@ -4,8 +4,8 @@ use Rattle.book_file.specs.declared.book_error.NextBookError.TheVariants as next
 use Rattle.book_file.specs.declared.book_error.ReadBook.{ReadBook}
 use Rattle.book_file.specs.Book.{Book}
 use Rattle.book_merge.specs.declared.fault.MergeFault.{MergeFault}
-use Rattle.book_merge.specs.Merging.{fault_with, sum_with}
-use Rattle.book_merge.proofs.Sums.{Turn, HasGone, OfEpoch, IsFault, begun, one_more, all_read, book_past, bad_past, bad_answered, too_many_books, sum_told, fault_told, epoch_kept, epoch_told}
+use Rattle.book_merge.specs.Merging.{sum_with}
+use Rattle.book_merge.proofs.Sums.{Turn, HasGone, OfEpoch, one_more, all_read, book_past, bad_past, bad_answered, sum_told, fault_told, epoch_kept, epoch_told}
 use Rattle.book_merge.proofs.merging.read_sum.Goals as goal
 
 -- what a turn takes that was answered so

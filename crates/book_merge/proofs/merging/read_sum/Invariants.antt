@@ -1,4 +1,4 @@
-use Rattle.std.proofs.Common.{◌≡◌, ◌≤◌}
+use Rattle.std.proofs.Common.{◌≤◌}
 use Rattle.book_merge.specs.declared.limits.TheConstants.{MAX_BOOKS_BYTES}
 use Rattle.book_merge.proofs.Sums.{HasGone, OfEpoch}
 use Rattle.book_merge.proofs.merging.read_sum.Given as goal

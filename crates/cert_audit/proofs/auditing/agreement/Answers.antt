@@ -1,19 +1,9 @@
-use Rattle.std.proofs.Common.{arith, ℕ, ◌<◌, ◌≡◌, ◌+◌, ◌∙◌, sym, ap, refl, get_or, take, cond, List, length}
-use Rattle.std.specs.List.{sum_by}
-use Rattle.std.proofs.lemmas.List.Recursion.{is_sum_by}
-use Rattle.std.proofs.lemmas.List.Sums.{sum_by_more}
+use Rattle.std.proofs.Common.{arith, ℕ, ◌≡◌, ◌+◌, ◌∙◌, sym, ap, get_or, take, cond}
 use Rattle.shamir_limbs.specs.KeyLine.{is_on_all, agreement_of_all}
 use Rattle.shamir_limbs.specs.declared.share.Point.{Point}
+use Rattle.shamir_limbs.proofs.OnAll.{agreement_of_all-more}
 use Rattle.cert_audit.proofs.auditing.agreement.Goals as goal
 use Rattle.cert_audit.proofs.auditing.agreement.Goals.{then-is_on_all, else-is_on_all}
-
--- one point more
-agreement_of_all-more : (q0 q1 q2 : List ℕ) (points : List Point) (i : ℕ) (p : Point) → i < length points
-    → agreement_of_all q0 q1 q2 (take (i + 1) points) ≡ agreement_of_all q0 q1 q2 (take i points) + cond (is_on_all q0 q1 q2 (get_or points i p)) 1 0
-agreement_of_all-more q0 q1 q2 points i p within =
-    let count : Point → ℕ = λ (q : Point). cond (is_on_all q0 q1 q2 q) 1 0 in
-    let sum : (xs : List Point) → agreement_of_all q0 q1 q2 xs ≡ sum_by count xs = is_sum_by (agreement_of_all q0 q1 q2) count refl (λ _ _. refl) in
-    sum (take (i + 1) points) ∙ sum_by_more count points i p within ∙ ap (λ (n : ℕ). n + count (get_or points i p)) (sym (sum (take i points)))
 
 pub loop-i-preserved : goal.loop-i-preserved
 loop-i-preserved c =

@@ -1,8 +1,8 @@
 use Rattle.std.proofs.Common.{◌≡◌, ◌+◌, ◌≤◌, ◌++◌, take, map, length, arith, sym, ap, ◌∙◌}
 use Rattle.std.specs.Prelude.{if◌then◌else◌}
 use Rattle.std.proofs.lemmas.List.{length-take}
+use Rattle.star_lists.proofs.Mapped.{take-step}
 use Rattle.layer_walk.specs.Kept.{adopt, next_number}
-use Rattle.layer_walk.proofs.MadeLists.{take-step}
 use Rattle.layer_walk.proofs.Holding.{few_parents, rows_more}
 use Rattle.layer_walk.proofs.held.copied_rows.Goals as goal
 use Rattle.layer_walk.proofs.held.copied_rows.Goals.{then-is_opened, else-is_opened}

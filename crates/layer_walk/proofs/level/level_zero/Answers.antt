@@ -1,11 +1,11 @@
 use Rattle.std.proofs.Common.{◌≡◌, ◌+◌, ◌++◌, ◌∷◌, [], length, take, map, arith, sym, ap, ◌∙◌, subst}
 use Rattle.std.proofs.lemmas.List.{length-take-le, take_all}
+use Rattle.star_lists.proofs.Mapped.{take-step}
 use Rattle.layer_walk.specs.Made.{IsLevel}
 use Rattle.layer_walk.specs.Outer.{first_row}
 use Rattle.layer_walk.specs.Reveal.{first_frame, outer_rows}
 use Rattle.layer_walk.specs.Standing.{outermost, level_zero_of}
 use Rattle.layer_walk.proofs.Firsts.{views_none, views_row, views_other, zero_good}
-use Rattle.layer_walk.proofs.MadeLists.{take-step}
 use Rattle.layer_walk.proofs.level.level_zero.Goals as goal
 use Rattle.layer_walk.proofs.level.level_zero.Goals.{in-Ok+in_ok-push, in_default}
 

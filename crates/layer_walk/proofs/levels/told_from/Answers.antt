@@ -1,7 +1,7 @@
 use Rattle.std.proofs.Common.{arith, sym, ◌∙◌}
+use Rattle.std.proofs.lemmas.List.{nil_from_length}
 use Rattle.report_frame.specs.declared.limits.TheConstants.{MAX_LAYERS}
 use Rattle.layer_walk.proofs.Fits.{groups_fit, groups_few}
-use Rattle.layer_walk.proofs.MadeLists.{no_elements}
 use Rattle.layer_walk.proofs.SoFar.{none_done, one_more, ends_early}
 use Rattle.layer_walk.proofs.levels.told_from.Goals as goal
 
@@ -12,16 +12,16 @@ loop-done-init g c = record {
 }
 
 pub returns-then-len-eq0-clause-groups : goal.returns-then-len-eq0-clause-groups
-returns-then-len-eq0-clause-groups g c = (ends_early _ _ _ _ MAX_LAYERS _ _ c.loop-done.invariant.so_far (no_elements _ (sym c.len.ensures ∙ c.if-len-eq0.true)) (omega (arith, c.loop-done-test.true))).groups
+returns-then-len-eq0-clause-groups g c = (ends_early _ _ _ _ MAX_LAYERS _ _ c.loop-done.invariant.so_far (nil_from_length _ (sym c.len.ensures ∙ c.if-len-eq0.true)) (omega (arith, c.loop-done-test.true))).groups
 
 pub returns-then-len-eq0-clause-levels : goal.returns-then-len-eq0-clause-levels
-returns-then-len-eq0-clause-levels g c = (ends_early _ _ _ _ MAX_LAYERS _ _ c.loop-done.invariant.so_far (no_elements _ (sym c.len.ensures ∙ c.if-len-eq0.true)) (omega (arith, c.loop-done-test.true))).levels
+returns-then-len-eq0-clause-levels g c = (ends_early _ _ _ _ MAX_LAYERS _ _ c.loop-done.invariant.so_far (nil_from_length _ (sym c.len.ensures ∙ c.if-len-eq0.true)) (omega (arith, c.loop-done-test.true))).levels
 
 pub returns-then-len-eq0-clause-refusals : goal.returns-then-len-eq0-clause-refusals
-returns-then-len-eq0-clause-refusals g c = (ends_early _ _ _ _ MAX_LAYERS _ _ c.loop-done.invariant.so_far (no_elements _ (sym c.len.ensures ∙ c.if-len-eq0.true)) (omega (arith, c.loop-done-test.true))).refusals
+returns-then-len-eq0-clause-refusals g c = (ends_early _ _ _ _ MAX_LAYERS _ _ c.loop-done.invariant.so_far (nil_from_length _ (sym c.len.ensures ∙ c.if-len-eq0.true)) (omega (arith, c.loop-done-test.true))).refusals
 
 pub returns-then-len-eq0-clause-aux : goal.returns-then-len-eq0-clause-aux
-returns-then-len-eq0-clause-aux g c = (ends_early _ _ _ _ MAX_LAYERS _ _ c.loop-done.invariant.so_far (no_elements _ (sym c.len.ensures ∙ c.if-len-eq0.true)) (omega (arith, c.loop-done-test.true))).aux
+returns-then-len-eq0-clause-aux g c = (ends_early _ _ _ _ MAX_LAYERS _ _ c.loop-done.invariant.so_far (nil_from_length _ (sym c.len.ensures ∙ c.if-len-eq0.true)) (omega (arith, c.loop-done-test.true))).aux
 
 pub outs_of-requires-clause-fits : goal.outs_of-requires-clause-fits
 outs_of-requires-clause-fits g c κs within =

@@ -1,7 +1,7 @@
 use Rattle.std.proofs.Common.{◌≡◌, ◌<◌, ◌++◌, ◌∷◌, [], length, arith, sym, ap, ◌∙◌, get_or, take, append-nil}
+use Rattle.std.proofs.lemmas.List.{get_or_default}
 use Rattle.layer_walk.specs.Outs.{IsOut}
 use Rattle.layer_walk.specs.Made.{child_under, parents_from}
-use Rattle.layer_walk.proofs.MadeLists.{any_default}
 use Rattle.layer_walk.proofs.Next.{fit_at}
 use Rattle.layer_walk.proofs.Pairs.{zip_lengths, group_at, parents_step, parents_all, closed_child, some_group}
 use Rattle.layer_walk.proofs.parents.parents_of.Goals as goal
@@ -33,7 +33,7 @@ loop-i-preserved c =
       | in_default w ↦
           let g = get_or groups c.loop-i.i some_group in
           let so_far = parents_from level (take c.loop-i.i groups) (take c.loop-i.i outs) in
-          let here : g ≡ get_or groups c.loop-i.i g = any_default groups c.loop-i.i some_group g inside in
+          let here : g ≡ get_or groups c.loop-i.i g = get_or_default groups c.loop-i.i some_group g inside in
           w.parents-is ∙ c.loop-i.invariant
           ∙ sym (append-nil so_far) ∙ ap (λ l. so_far ++ l) (sym (closed_child level g o.outcome w.in_default.not-Opened))
           ∙ sym (parents_step level groups outs c.loop-i.i g o inside c.loop-i-test.true here c.index-outs-i.is)

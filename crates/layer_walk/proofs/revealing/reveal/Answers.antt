@@ -1,13 +1,13 @@
 use Rattle.std.proofs.Common.{◌≡◌, ◌+◌, ◌++◌, ◌∷◌, [], take, arith, sym, ap, ◌∙◌, subst}
-use Rattle.std.proofs.lemmas.List.{length-take, take_all}
+use Rattle.std.proofs.lemmas.List.{length-take, nil_from_length, take_all}
 use Rattle.std.proofs.lemmas.Result.{IfOk-weaker}
+use Rattle.star_lists.proofs.Mapped.{take-step}
 use Rattle.layer_walk.specs.Standing.{StandsFor}
 use Rattle.layer_walk.specs.Reveal.{reveal_of}
-use Rattle.layer_walk.proofs.MadeLists.{take-none, take-step}
 use Rattle.layer_walk.proofs.revealing.reveal.Goals as goal
 
 pub loop-item-init : goal.loop-item-init
-loop-item-init g c = record { epoch = c.new-walk.ensures.epoch; stands = subst (StandsFor c.new-walk.result) (sym (take-none c.args.records.now)) c.new-walk.ensures.stands }
+loop-item-init g c = record { epoch = c.new-walk.ensures.epoch; stands = subst (StandsFor c.new-walk.result) (sym (nil_from_length (take 0 c.args.records.now) (omega (arith, length-take 0 c.args.records.now)))) c.new-walk.ensures.stands }
 
 pub take-requires : goal.take-requires
 take-requires g c = omega (arith, c.loop-item.invariant.stands.taken, length-take c.loop-item.item-index c.args.records.now, c.loop-item-test.true, c.requires.records)

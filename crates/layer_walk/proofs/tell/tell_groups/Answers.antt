@@ -1,7 +1,7 @@
 use Rattle.std.proofs.Common.{◌≡◌, ◌<◌, ◌++◌, ◌∷◌, [], length, arith, sym, ap, ◌∙◌, get_or, take, append_assoc, append-nil}
+use Rattle.std.proofs.lemmas.List.{get_or_default}
 use Rattle.layer_walk.specs.Outs.{IsOut, FitsLevel}
 use Rattle.layer_walk.specs.Told.{told_under, told_group, told_groups}
-use Rattle.layer_walk.proofs.MadeLists.{any_default}
 use Rattle.layer_walk.proofs.Next.{fit_at}
 use Rattle.layer_walk.proofs.Pairs.{zip_lengths, group_at, told_step, told_all, closed_told, some_group}
 use Rattle.layer_walk.proofs.tell.tell_groups.Goals as goal
@@ -42,7 +42,7 @@ loop-i-preserved c =
       | in_default w ↦
           let g = get_or groups c.loop-i.i some_group in
           let so_far = told_groups level (take c.loop-i.i groups) (take c.loop-i.i outs) in
-          let here : g ≡ get_or groups c.loop-i.i g = any_default groups c.loop-i.i some_group g inside in
+          let here : g ≡ get_or groups c.loop-i.i g = get_or_default groups c.loop-i.i some_group g inside in
           ap (λ v. v.items) w.told-is ∙ c.loop-i.invariant
           ∙ ap (λ l. before ++ l) (
           sym (append-nil so_far) ∙ ap (λ l. so_far ++ l) (sym (closed_told level g o.points o.outcome w.in_default.not-Opened))

@@ -1,8 +1,7 @@
-use Rattle.std.proofs.Common.{◌≡◌, ◌∙◌, sym, ap, subst, arith, map, All}
+use Rattle.std.proofs.Common.{◌≡◌, ◌∙◌, sym, subst, arith, All}
 use Rattle.std.specs.List.{AllZip}
 use Rattle.std.proofs.lemmas.Result.{IfOk-weaker}
 use Rattle.report_frame.specs.declared.limits.TheConstants.{MAX_LAYERS}
-use Rattle.layer_walk.specs.Made.{IsAfter}
 use Rattle.layer_walk.specs.Reveal.{outer_rows, reveal_of}
 use Rattle.cert_audit.specs.Certificate.{IsCert}
 use Rattle.open_cert.specs.Certs.{certs_list, IsCertOf}

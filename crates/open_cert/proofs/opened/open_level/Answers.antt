@@ -1,13 +1,11 @@
-use Rattle.std.proofs.Common.{◌≡◌, ◌<◌, ◌++◌, ◌∷◌, [], length, arith, sym, ap, ◌∙◌, subst, append-nil}
+use Rattle.std.proofs.Common.{◌<◌, ◌∷◌, [], length, arith, sym, ap, ◌∙◌, subst, append-nil}
 use Rattle.std.specs.Option.{option_to_list}
-use Rattle.layer_walk.specs.declared.group.GroupOut.{GroupOut}
+use Rattle.star_lists.proofs.Zips.{AllZip-take_more}
 use Rattle.layer_walk.specs.Made.{AreOuts}
 use Rattle.layer_walk.specs.Outs.{IsOut}
 use Rattle.layer_walk.specs.Reveal.{no_parent}
 use Rattle.layer_walk.proofs.Next.{fit_at}
 use Rattle.layer_walk.proofs.Pairs.{group_at}
-use Rattle.layer_walk.proofs.Zips.{AllZip-take_more}
-use Rattle.open_cert.specs.Made.{certified_groups}
 use Rattle.open_cert.proofs.Groups.{groups_step, none_list}
 use Rattle.open_cert.proofs.opened.open_level.Goals as goal
 use Rattle.open_cert.proofs.opened.open_level.Goals.{in-Some+in_ok-push, in_default}

@@ -1,7 +1,7 @@
 use Rattle.std.proofs.Common.{◌+◌, take, sym, subst}
 use Rattle.std.specs.List.{AllZip}
+use Rattle.star_lists.proofs.Zips.{AllZip-take_more}
 use Rattle.layer_walk.specs.Outs.{IsOut}
-use Rattle.star_tool.proofs.Zipped.{AllZip-take_more}
 use Rattle.star_tool.proofs.tests_levels.outs_of.Goals as goal
 
 pub loop-group-preserved : goal.loop-group-preserved

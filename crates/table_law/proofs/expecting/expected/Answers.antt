@@ -1,7 +1,6 @@
-use Rattle.std.proofs.Common.{◌≡◌, ◌∙◌, sym, ap, subst}
+use Rattle.std.proofs.Common.{◌≡◌, ◌∙◌, sym, ap, subst, List}
 use Rattle.layer_walk.specs.declared.revealed.OpenedGroup.{OpenedGroup}
 use Rattle.layer_walk.specs.Reveal.{by_path, reveal_of}
-use Rattle.std.proofs.Common.{List}
 use Rattle.star_lists.specs.Ascending.{in_order}
 use Rattle.nest_client.specs.Stream.{table_records}
 use Rattle.table_law.specs.Prefixes.{prefixes}

@@ -1,24 +1,14 @@
-use Rattle.std.proofs.Common.{◌≡◌, ◌∙◌, ℕ, ◌+◌, ◌<◌, Bool, true, false, ◌&&◌, List, [], ◌∷◌, ◌++◌, refl, sym, ap, length, take, get_or, slice_index, arith, append_assoc, eqb, eqb-true, eq-eqb}
+use Rattle.std.proofs.Common.{◌≡◌, ◌∙◌, ℕ, ◌+◌, ◌<◌, Bool, true, false, ◌&&◌, List, [], ◌∷◌, ◌++◌, refl, sym, ap, length, take, get_or, slice_index, arith, append_assoc, eqb, eq-eqb}
 use Rattle.std.specs.Prelude.{Vec, if◌then◌else◌}
 use Rattle.std.specs.declared.alloc.Global.{Global}
-use Rattle.std.proofs.lemmas.List.{take_all}
+use Rattle.std.proofs.lemmas.List.{take_all, append-nil}
+use Rattle.std.proofs.lemmas.Bool.{and_right, ne_eqb}
 use Rattle.layer_walk.specs.declared.revealed.OpenedGroup.{OpenedGroup}
 use Rattle.table_law.specs.Prefixes.{Values, is_open, how_many, path_to, entry}
 use Rattle.table_law.specs.Fronts.{first_of}
 use Rattle.table_law.proofs.Growing.{shown, shown_more, shown_all, first_at, firsts_long, own_count, open_at, opens_long}
 use Rattle.table_law.proofs.prefixes.push_prefixes.Goals as goal
 use Rattle.table_law.proofs.prefixes.push_prefixes.Goals.{then-firsts-i+then-opens-i+in_ok-push, else-firsts-i, else-firsts-i-via-then-firsts-i+else-opens-i, else-firsts-i-via-else-firsts-i}
-
-and_no : (b : Bool) → (b && false) ≡ false
-and_no true = refl
-and_no false = refl
-
-not_equal : (a b : ℕ) → (a ≡ b → ⊥) → eqb a b ≡ false
-not_equal a b apart = elim (eqb a b) as (λ t. eqb a b ≡ t → t ≡ false) [ true ↦ λ e. absurd (apart (eqb-true a b e)) | false ↦ λ e. refl ] refl
-
-append_nil : {X : Type 0} (xs : List X) → xs ++ [] ≡ xs
-append_nil [] = refl
-append_nil (x ∷ xs) = ap (λ l. x ∷ l) (append_nil xs)
 
 pub bounds-firsts-i : goal.bounds-firsts-i
 bounds-firsts-i c = omega (arith, c.len-i-end.ensures, firsts_long c.args.table.now c.args.layers c.args.firsts.now c.requires.firsts)
@@ -65,12 +55,12 @@ rows-preserved c =
           let no : (eqb (first_of table n row) i && is_open table ks n row) ≡ false =
           elim w.else-firsts-i.branch [
             | else-firsts-i-via-then-firsts-i+else-opens-i v ↦
-                ap (λ b. eqb (first_of table n row) i && b) (sym (open_at table ks n opens c.requires.opens i _ within) ∙ v.if-opens-i.false) ∙ and_no (eqb (first_of table n row) i)
+                ap (λ b. eqb (first_of table n row) i && b) (sym (open_at table ks n opens c.requires.opens i _ within) ∙ v.if-opens-i.false) ∙ and_right (eqb (first_of table n row) i) false refl
             | else-firsts-i-via-else-firsts-i v ↦
-                ap (λ b. b && is_open table ks n row) (not_equal (first_of table n row) i (λ e. v.if-firsts-i.false (own ∙ e)))
+                ap (λ b. b && is_open table ks n row) (ne_eqb (first_of table n row) i (λ e. v.if-firsts-i.false (own ∙ e)))
           ] in
           ap (λ (v : Vec OpenedGroup Global). v.items) w.groups-is ∙ c.rows.invariant
-          ∙ ap (λ l. old ++ l) (sym (append_nil (shown table ks n (take i table))) ∙ ap (λ b. shown table ks n (take i table) ++ last b) (sym no) ∙ sym more)
+          ∙ ap (λ l. old ++ l) (sym (append-nil (shown table ks n (take i table))) ∙ ap (λ b. shown table ks n (take i table) ++ last b) (sym no) ∙ sym more)
     ]
 
 pub returns : goal.returns

@@ -1,11 +1,10 @@
 use Rattle.std.specs.List.{list_any}
 use Rattle.tag_groups.specs.declared.key.Key.{Key}
-use Rattle.tag_groups.specs.Keys.{is_row_of}
+use Rattle.tag_groups.specs.Keys.{is_row_of, same_key}
 use Rattle.tag_groups.specs.Index.{has_key}
 use Rattle.std.proofs.Common.{◌≡◌, ap, sym, ◌∙◌, ◌++◌, ◌∷◌, [], true, false, append-nil, take, length, map, arith}
 use Rattle.std.proofs.Math.Seq.{take-length}
 use Rattle.tag_groups.proofs.Keys.{groups_step}
-use Rattle.tag_groups.specs.Keys.{same_key}
 use Rattle.tag_groups.specs.Grouped.{group_of, groups_of}
 use Rattle.tag_groups.proofs.groups.group_rows.Goals as goal
 use Rattle.tag_groups.proofs.groups.group_rows.Goals.{then-not-has_group+in_ok-members+in_ok-push, else-not-has_group}

@@ -1,7 +1,7 @@
 use Rattle.std.proofs.Common.{◌∙◌, ◌++◌, take, ap, sym, subst}
 use Rattle.std.specs.List.{flat_map}
+use Rattle.star_lists.proofs.Mapped.{flat_map-push, take-step}
 use Rattle.cert_audit.specs.Certificate.{IsCert, cert_spelling}
-use Rattle.layer_walk.proofs.MadeLists.{flat_map-push, take-step}
 use Rattle.star_tool.proofs.verbs.certify.certs_bytes.Goals as goal
 
 pub cert_bytes-requires : goal.cert_bytes-requires

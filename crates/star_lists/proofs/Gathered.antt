@@ -1,13 +1,14 @@
 -- The elements of a list, gathered by what they are the same as: each test passes as often.
-use Rattle.std.proofs.Common.{◌≡◌, ◌+◌, Bool, true, false, cond, not, ◌||◌, List, [], ◌∷◌, ◌++◌, inl, inr, refl, sym, ap, ◌∙◌, filter, length, length-append, arith}
+use Rattle.std.proofs.Common.{◌≡◌, ◌+◌, Bool, true, false, cond, not, ◌||◌, List, [], ◌∷◌, ◌++◌, inl, refl, sym, ap, ◌∙◌, filter, length, length-append, arith}
 use Rattle.std.specs.List.{flat_map, list_any}
 use Rattle.std.proofs.lemmas.List.Elements.{filter-append}
-use Rattle.star_lists.proofs.Bools.{left_false, right_false}
+use Rattle.std.proofs.lemmas.Bool.{or_parts}
 use Rattle.star_lists.proofs.Elements.{In, from_filter}
 use Rattle.star_lists.proofs.FirstOnes.{Apart}
 
 -- those that pass the one test, and those that don't
-halves : {X : Type 0} (p q : X → Bool) (xs : List X) → length (filter p xs) ≡ length (filter p (filter q xs)) + length (filter p (filter (λ x. not (q x)) xs))
+halves : {X : Type 0} (p q : X → Bool) (xs : List X)
+    → length (filter p xs) ≡ length (filter p (filter q xs)) + length (filter p (filter (λ x. not (q x)) xs))
 halves p q [] = refl
 halves p q (x ∷ xs) =
     let rest = halves p q xs in
@@ -48,10 +49,11 @@ module _ {X : Type 0} (same : X → X → Bool) (through : (x y z : X) → same 
   stay_all : (f : X) (gs : List X) → list_any (same f) gs ≡ false → (xs : List X) → gathered gs xs ≡ gathered gs (others f xs)
   stay_all f [] apart xs = refl
   stay_all f (g ∷ gs) apart xs =
-      λ i. stays f g (left_false (same f g) (list_any (same f) gs) apart) xs i ++ stay_all f gs (right_false (same f g) (list_any (same f) gs) apart) xs i
+      λ i. stays f g (or_parts (same f g) (list_any (same f) gs) apart).0 xs i ++ stay_all f gs (or_parts (same f g) (list_any (same f) gs) apart).1 xs i
 
   -- an element that isn't the same as f is the same as another
-  other_one : (f : X) (fs : List X) (z : X) → list_any (λ f. same f z) (f ∷ fs) ≡ true → not (same f z) ≡ true → list_any (λ f. same f z) fs ≡ true
+  other_one : (f : X) (fs : List X) (z : X) → list_any (λ f. same f z) (f ∷ fs) ≡ true → not (same f z) ≡ true
+      → list_any (λ f. same f z) fs ≡ true
   other_one f fs z here apart =
       elim (same f z) as (λ b. (b || list_any (λ f. same f z) fs) ≡ true → not b ≡ true → list_any (λ f. same f z) fs ≡ true) [
         | true ↦ λ h a. absurd (let clash : false ≡ true = a in cc)
@@ -63,7 +65,8 @@ module _ {X : Type 0} (same : X → X → Bool) (through : (x y z : X) → same 
   nothing_left (x ∷ xs) known = absurd (let clash : false ≡ true = known x (inl refl) in cc)
 
   -- where no two of these are the same, and each element is the same as one
-  pub gathered_often : (firsts : List X) → Apart same firsts → (xs : List X) → ((z : X) → In z xs → list_any (λ f. same f z) firsts ≡ true) → (p : X → Bool)
+  pub gathered_often : (firsts : List X) → Apart same firsts → (xs : List X) → ((z : X) → In z xs → list_any (λ f. same f z) firsts ≡ true)
+      → (p : X → Bool)
       → length (filter p (gathered firsts xs)) ≡ length (filter p xs)
   gathered_often [] apart xs known p = sym (ap (λ l. length (filter p l)) (nothing_left xs known))
   gathered_often (f ∷ fs) apart xs known p =

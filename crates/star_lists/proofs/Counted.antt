@@ -1,21 +1,29 @@
--- How many elements pass a test.
-use Rattle.std.proofs.Common.{◌≡◌, suc, ◌<◌, ◌≤◌, Bool, true, false, cond, not, List, [], ◌∷◌, Option, Some, None, inl, inr, refl, sym, ap, ◌∙◌, map, filter, length, arith}
-use Rattle.std.proofs.lemmas.List.{length-map}
+-- How many elements pass a test: lists in which each test passes equally often, and first ones.
+use Rattle.std.proofs.Common.{◌≡◌, suc, ◌<◌, ◌≤◌, Bool, true, false, cond, not, List, [], ◌∷◌, Option, Some, None, inl, inr, refl, sym, ap, ◌∙◌, map, filter, length, arith, ℕ, zero, ◌+◌, ◌++◌, length-append}
+use Rattle.std.proofs.lemmas.List.{length-map, map-append}
+use Rattle.std.proofs.lemmas.List.Elements.{filter-append}
+use Rattle.std.specs.Cmp.{IsTotalOrder}
 use Rattle.std.specs.List.{filter_map, cons_option, list_any}
-use Rattle.star_lists.proofs.Bools.{left_false, right_false}
-use Rattle.star_lists.proofs.Elements.{In, in_filter}
+use Rattle.std.specs.declared.cmp.Ordering.{Ordering}
+use Rattle.star_lists.specs.Ascending.{in_order}
+use Rattle.star_lists.specs.Numbered.{joined_below}
+use Rattle.std.proofs.lemmas.Bool.{or_parts}
+use Rattle.star_lists.proofs.Elements.{In, in_filter, filter_whole, from_filter}
 use Rattle.star_lists.proofs.FirstOnes.{Apart}
-use Rattle.layer_walk.specs.Laws.{EquallyOften}
-use Rattle.layer_walk.proofs.Mapped.{filter-map}
+use Rattle.star_lists.specs.Elements.{EquallyOften}
+use Rattle.star_lists.proofs.Mapped.{filter-map}
+use Rattle.star_lists.proofs.InOrder.{filter-in_order, length-in_order}
 
-pub length-filter-map : {X Y : Type 0} (p : Y → Bool) (f : X → Y) (xs : List X) → length (filter p (map f xs)) ≡ length (filter (λ x. p (f x)) xs)
+pub length-filter-map : {X Y : Type 0} (p : Y → Bool) (f : X → Y) (xs : List X)
+    → length (filter p (map f xs)) ≡ length (filter (λ x. p (f x)) xs)
 length-filter-map p f xs = ap length (filter-map p (λ x. p (f x)) f (λ x. refl) xs) ∙ length-map (filter (λ x. p (f x)) xs) f
 
 some_passes : {X : Type 0} → (X → Bool) → Option X → Bool
 some_passes p None = false
 some_passes p (Some x) = p x
 
-length-filter_map : {X Y : Type 0} (p : Y → Bool) (f : X → Option Y) (xs : List X) → length (filter p (filter_map f xs)) ≡ length (filter (λ x. some_passes p (f x)) xs)
+length-filter_map : {X Y : Type 0} (p : Y → Bool) (f : X → Option Y) (xs : List X)
+    → length (filter p (filter_map f xs)) ≡ length (filter (λ x. some_passes p (f x)) xs)
 unfolding some_passes
 length-filter_map p f [] = refl
 length-filter_map p f (x ∷ xs) =
@@ -29,43 +37,62 @@ length-filter_map p f (x ∷ xs) =
     ]
 
 -- what equally many give stands equally often
-pub often_filter_map : {X Y : Type 0} (f : X → Option Y) (xs ys : List X) → EquallyOften xs ys → EquallyOften (filter_map f xs) (filter_map f ys)
+pub often_filter_map : {X Y : Type 0} (f : X → Option Y) (xs ys : List X) → EquallyOften xs ys
+    → EquallyOften (filter_map f xs) (filter_map f ys)
 often_filter_map f xs ys h p = length-filter_map p f xs ∙ h (λ x. some_passes p (f x)) ∙ sym (length-filter_map p f ys)
+
+-- joined lists
+pub often_append : {X : Type 0} (xs ys us vs : List X) → EquallyOften xs us → EquallyOften ys vs → EquallyOften (xs ++ ys) (us ++ vs)
+often_append xs ys us vs h k p =
+    ap length (filter-append p xs ys)
+    ∙ length-append (filter p xs) (filter p ys)
+    ∙ (λ i. h p i + k p i)
+    ∙ sym (length-append (filter p us) (filter p vs))
+    ∙ sym (ap length (filter-append p us vs))
+
+pub often_below : {X Y : Type 0} (t : X → Y) (f g : ℕ → List X) → ((l : ℕ) → EquallyOften (map t (f l)) (map t (g l))) → (n : ℕ)
+    → EquallyOften (map t (joined_below f n)) (map t (joined_below g n))
+often_below t f g h zero p = refl
+often_below t f g h (suc n) p =
+    ap (λ l. length (filter p l)) (map-append t (joined_below f n) (f n))
+    ∙ often_append (map t (joined_below f n)) (map t (f n)) (map t (joined_below g n)) (map t (g n)) (often_below t f g h n) (h n) p
+    ∙ ap (λ l. length (filter p l)) (sym (map-append t (joined_below g n) (g n)))
+
+-- what is made of a list stands equally often in what is made of the list in order
+pub often_in_order : {X Y : Type 0} (c : X → X → Ordering) → IsTotalOrder c → (t : X → Y) (xs : List X)
+    → EquallyOften (map t (in_order c xs)) (map t xs)
+often_in_order c total t xs p =
+    length-filter-map p t (in_order c xs)
+    ∙ ap length (filter-in_order c total (λ x. p (t x)) xs)
+    ∙ length-in_order c (filter (λ x. p (t x)) xs)
+    ∙ sym (length-filter-map p t xs)
+
+pub ordered_often : {X Y : Type 0} (c : X → X → Ordering) → IsTotalOrder c → (t : X → Y) (xs ys : List X)
+    → EquallyOften (map t xs) (map t ys) → EquallyOften (map t (in_order c xs)) (map t (in_order c ys))
+ordered_often c total t xs ys h p = often_in_order c total t xs p ∙ h p ∙ sym (often_in_order c total t ys p)
 
 -- the same of the two lists the other way round
 pub turned_often : {X : Type 0} (xs ys : List X) → EquallyOften xs ys → EquallyOften ys xs
 turned_often xs ys h p = sym (h p)
 
-all_kept : {X : Type 0} (xs : List X) → length (filter (λ x. true) xs) ≡ length xs
-all_kept [] = refl
-all_kept (x ∷ xs) = ap suc (all_kept xs)
-
 -- and the lists are equally long
 pub equally_long : {X : Type 0} (xs ys : List X) → EquallyOften xs ys → length xs ≡ length ys
-equally_long xs ys h = sym (all_kept xs) ∙ h (λ x. true) ∙ all_kept ys
-
-counted_in : {X : Type 0} (p : X → Bool) (xs : List X) → 0 < length (filter p xs) → (x : X) × In x xs × (p x ≡ true)
-counted_in p [] h = absurd (omega (arith, h))
-counted_in p (x ∷ xs) h =
-    elim (p x) as (λ b. p x ≡ b → 0 < length (cond b (x ∷ filter p xs) (filter p xs)) → (y : _) × In y (x ∷ xs) × (p y ≡ true)) [
-      | true ↦ λ e k. (x, inl refl, e)
-      | false ↦ λ e k. let r = counted_in p xs k in (r.0, inr r.1, r.2)
-    ] refl h
-
-in_counted : {X : Type 0} (p : X → Bool) (xs : List X) (x : X) → In x xs → p x ≡ true → 0 < length (filter p xs)
-in_counted p [] x i t = absurd i
-in_counted p (y ∷ xs) x i t =
-    elim (p y) as (λ b. p y ≡ b → 0 < length (cond b (y ∷ filter p xs) (filter p xs))) [
-      | true ↦ λ e. omega arith
-      | false ↦ λ e. elim i [ inl q ↦ absurd (let no : true ≡ false = sym t ∙ ap p q ∙ e in cc) | inr k ↦ in_counted p xs x k t ]
-    ] refl
+equally_long xs ys h =
+    let all : (l : List _) → length (filter (λ x. true) l) ≡ length l = λ l. ap length (filter_whole (λ x. true) l (λ x i. refl)) in
+    sym (all xs) ∙ h (λ x. true) ∙ all ys
 
 -- where one passes, one of the other list passes
-pub other_passes : {X : Type 0} (xs ys : List X) → EquallyOften xs ys → (p : X → Bool) (x : X) → In x xs → p x ≡ true → (y : X) × In y ys × (p y ≡ true)
-other_passes xs ys h p x i t =
-    let some : 0 < length (filter p xs) = in_counted p xs x i t in
-    let same : length (filter p xs) ≡ length (filter p ys) = h p in
-    counted_in p ys (omega arith)
+pub other_passes : {X : Type 0} (xs ys : List X) → EquallyOften xs ys → (p : X → Bool) (x : X) → In x xs → p x ≡ true
+    → (y : X) × In y ys × (p y ≡ true)
+other_passes xs ys h p x i t = one (filter p ys) (λ y j. j) (omega (arith, h p, some (filter p xs) (in_filter p xs x i t)))
+  where
+    some : (l : List _) → In x l → 0 < length l
+    some [] j = absurd j
+    some (y ∷ l) j = omega arith
+
+    one : (l : List _) → ((y : _) → In y l → In y (filter p ys)) → 0 < length l → (y : _) × In y ys × (p y ≡ true)
+    one [] f less = absurd (omega arith)
+    one (y ∷ l) f less = let r = from_filter p ys y (f y (inl refl)) in (y, r.0, r.1)
 
 -- ---- first ones
 
@@ -82,7 +109,8 @@ module _ {X : Type 0} (same : X → X → Bool) (turned : (x y : X) → same x y
         | false ↦ elim (test v) as (λ b. length (cond b (v ∷ filter test (others u vs)) (filter test (others u vs))) ≤ length (cond b (v ∷ filter test vs) (filter test vs))) [ true ↦ omega arith | false ↦ rest ]
       ]
 
-  one_less : (u w : X) (vs : List X) → In w vs → same u w ≡ true → test w ≡ true → suc (length (filter test (others u vs))) ≤ length (filter test vs)
+  one_less : (u w : X) (vs : List X) → In w vs → same u w ≡ true → test w ≡ true
+      → suc (length (filter test (others u vs))) ≤ length (filter test vs)
   one_less u w [] i s t = absurd i
   one_less u w (v ∷ vs) (inl q) s t =
       let uv : same u v ≡ true = ap (same u) (sym q) ∙ s in
@@ -100,11 +128,12 @@ module _ {X : Type 0} (same : X → X → Bool) (turned : (x y : X) → same x y
 
   not_like : (u : X) (us : List X) (a : X) → list_any (same u) us ≡ false → In a us → same u a ≡ false
   not_like u [] a h i = absurd i
-  not_like u (x ∷ us) a h (inl q) = ap (same u) q ∙ left_false (same u x) (list_any (same u) us) h
-  not_like u (x ∷ us) a h (inr k) = not_like u us a (right_false (same u x) (list_any (same u) us) h) k
+  not_like u (x ∷ us) a h (inl q) = ap (same u) q ∙ (or_parts (same u x) (list_any (same u) us) h).0
+  not_like u (x ∷ us) a h (inr k) = not_like u us a (or_parts (same u x) (list_any (same u) us) h).1 k
 
   -- elements of which no two are the same, each the same as one of the other list
-  pub no_fewer : (us vs : List X) → Apart same us → ((u : X) → In u us → (v : X) × In v vs × (same u v ≡ true)) → length (filter test us) ≤ length (filter test vs)
+  pub no_fewer : (us vs : List X) → Apart same us → ((u : X) → In u us → (v : X) × In v vs × (same u v ≡ true))
+      → length (filter test us) ≤ length (filter test vs)
   no_fewer [] vs apart has = omega arith
   no_fewer (u ∷ us) vs apart has =
       let w = has u (inl refl) in
