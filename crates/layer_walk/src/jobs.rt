@@ -6,7 +6,7 @@ ghost use Rattle.layer_walk.specs.Made.{AreOuts};
 
 use crate::group::{GroupOut, open_group};
 use crate::level::Level;
-use recovery_pool::{Gate, Job, run_jobs};
+use recovery_pool::{Gate, Job, Ticket, run_jobs};
 use star_io::NoMemory;
 use std::alloc::Global;
 use std::thread::Threads;
@@ -32,8 +32,9 @@ impl<'a> Job for LevelJob<'a> {
         self.groups.len() as u64
     }
 
-    fn work(&self, alloc: Global, number: u64) -> Result<GroupOut, NoMemory> {
-        open_group(alloc, self.level, self.groups.get(number as usize))
+    fn work(&self, alloc: Global, ticket: Ticket<'_>) -> Result<GroupOut, NoMemory> {
+        let group = self.groups.get(ticket.number() as usize);
+        open_group(alloc, self.level, group)
     }
 }
 

@@ -11,6 +11,11 @@ pub record TicketsSeen : Type 0 where
   pub id : TicketsId
   pub workers : ℕ
 
+-- the number of the job, and the tickets that it was drawn from
+pub record TicketSeen : Type 0 where
+  pub number : ℕ
+  pub of : TicketsId
+
 -- the numbers that it drew in the order of its draws, what the word held at its last draw, its share, whether it is spent, and the tickets that it belongs to
 pub record PassSeen : Type 0 where
   pub drawn : List ℕ

@@ -1,5 +1,6 @@
 ghost use Rattle.std.specs.Prelude.{◌≡◌, ℕ, ◌<◌, IfOk};
 
+use crate::tickets::Ticket;
 use star_io::NoMemory;
 use std::alloc::Global;
 
@@ -17,8 +18,8 @@ pub trait Job: Sync {
     fn count(&self) -> u64
         ensures { result ≡ jobs self.now };
 
-    /// Does the job with this number, which counts from 0.
-    fn work(&self, alloc: Global, number: u64) -> Result<Self::Out, NoMemory>
-        requires { number < jobs self.now }
-        ensures { IfOk result (λ out. answers self.now number out) };
+    /// Does the job of this ticket, which is then used up.
+    fn work(&self, alloc: Global, ticket: Ticket<'_>) -> Result<Self::Out, NoMemory>
+        requires { ticket.number < jobs self.now }
+        ensures { IfOk result (λ out. answers self.now ticket.entry.number out) };
 }

@@ -5,6 +5,7 @@
 //! always holds of that word is stated by `laws`, whatever the order of the steps.
 #![tactic(auto)]
 
+mod crew;
 mod entry;
 mod gate;
 mod job;
@@ -22,7 +23,7 @@ pub use job::Job;
 pub use limits::{MAX_JOBS, MAX_WORKERS};
 pub use pass::Pass;
 pub use run::run_jobs;
-pub use tickets::Tickets;
+pub use tickets::{Ticket, Tickets};
 
 #[cfg(test)]
 mod tests;

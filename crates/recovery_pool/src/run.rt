@@ -4,6 +4,7 @@ ghost use Rattle.std.specs.Thread.{IsSync, IsSend};
 ghost use Rattle.recovery_pool.specs.declared.limits.TheConstants.{MAX_JOBS, MAX_WORKERS};
 ghost use Rattle.recovery_pool.specs.Shifts.{HasEnded, IsFresh};
 
+use crate::crew::Crew;
 use crate::entry::{Entry, Shift};
 use crate::gate::Gate;
 use crate::job::Job;
@@ -39,7 +40,8 @@ pub fn run_jobs<R: Threads + Sync, J: Job, G: Gate>(
 {
     let count = jobs.count();
     let (tickets, pass) = Tickets::new(alloc, count, workers)?;
-    let Shift { pass, entries } = run_workers(rt, alloc, level, jobs, &tickets, pass, gate)?;
+    let crew = Crew::new(jobs, &tickets);
+    let Shift { pass, entries } = run_workers(rt, alloc, level, &crew, pass, gate)?;
     tickets.close(pass);
     in_order(alloc, jobs, count as usize, entries)
 }
@@ -48,20 +50,19 @@ pub fn run_jobs<R: Threads + Sync, J: Job, G: Gate>(
 fn work_until_none<J: Job, G: Gate>(
     alloc: Global,
     level: u8,
-    jobs: &J,
-    tickets: &Tickets,
+    crew: &Crew<'_, J>,
     mut pass: Pass,
     gate: &G,
 ) -> Result<Shift<J::Out>, NoMemory>
-    requires jobs { tickets.now.id.jobs ≡ J.jobs jobs.now }
-    requires begins { IsFresh tickets.now.id pass }
-    ensures { IfOk result (λ s. HasEnded (J.answers jobs.now) tickets.now.id pass.share
-        s.pass s.entries.items) }
+    requires begins { IsFresh crew.now.tickets.now.id pass }
+    ensures { IfOk result (λ s. HasEnded (J.answers crew.now.jobs.now) crew.now.tickets.now.id
+        pass.share s.pass s.entries.items) }
 {
     let mut entries = Vec::new(alloc);
-    while let Some(number) = tickets.draw(&mut pass) {
+    while let Some(ticket) = crew.tickets.draw_ticket(&mut pass) {
+        let number = ticket.number();
         gate.pass(level, number);
-        let out = jobs.work(alloc, number)?;
+        let out = crew.work(alloc, ticket)?;
         entries.push(Entry { number, out })?;
     }
     Ok(Shift { pass, entries })
@@ -73,39 +74,35 @@ fn run_workers<R: Threads + Sync, J: Job, G: Gate>(
     rt: &R,
     alloc: Global,
     level: u8,
-    jobs: &J,
-    tickets: &Tickets,
+    crew: &Crew<'_, J>,
     mut pass: Pass,
     gate: &G,
 ) -> Result<Shift<J::Out>, NoMemory>
-    requires jobs { tickets.now.id.jobs ≡ J.jobs jobs.now }
-    requires begins { IsFresh tickets.now.id pass }
-    ensures { IfOk result (λ s. HasEnded (J.answers jobs.now) tickets.now.id pass.share
-        s.pass s.entries.items) }
+    requires begins { IsFresh crew.now.tickets.now.id pass }
+    ensures { IfOk result (λ s. HasEnded (J.answers crew.now.jobs.now) crew.now.tickets.now.id
+        pass.share s.pass s.entries.items) }
 {
     let share = pass.share();
     if share < 2 {
-        return work_until_none(alloc, level, jobs, tickets, pass, gate);
+        return work_until_none(alloc, level, crew, pass, gate);
     }
-    let other = tickets.split(&mut pass, share / 2);
+    let other = crew.tickets.split(&mut pass, share / 2);
     let front = move || -> Result<Shift<J::Out>, NoMemory>
         requires threads { IsSync R.row × IsSync J.row × IsSync G.row × IsSend J.Out.row }
-        requires jobs { tickets.now.id.jobs ≡ J.jobs jobs.now }
-        requires begins { IsFresh tickets.now.id pass }
-        ensures { IfOk result (λ s. HasEnded (J.answers jobs.entry.now) tickets.entry.now.id
-            pass.share s.pass s.entries.items) }
-    { run_workers(rt, alloc, level, jobs, tickets, pass, gate) };
+        requires begins { IsFresh crew.now.tickets.now.id pass }
+        ensures { IfOk result (λ s. HasEnded (J.answers crew.entry.now.jobs.now)
+            crew.entry.now.tickets.now.id pass.share s.pass s.entries.items) }
+    { run_workers(rt, alloc, level, crew, pass, gate) };
     let back = move || -> Result<Shift<J::Out>, NoMemory>
         requires threads { IsSync R.row × IsSync J.row × IsSync G.row × IsSend J.Out.row }
-        requires jobs { tickets.now.id.jobs ≡ J.jobs jobs.now }
-        requires begins { IsFresh tickets.now.id other }
-        ensures { IfOk result (λ s. HasEnded (J.answers jobs.entry.now) tickets.entry.now.id
-            other.share s.pass s.entries.items) }
-    { run_workers(rt, alloc, level, jobs, tickets, other, gate) };
+        requires begins { IsFresh crew.now.tickets.now.id other }
+        ensures { IfOk result (λ s. HasEnded (J.answers crew.entry.now.jobs.now)
+            crew.entry.now.tickets.now.id other.share s.pass s.entries.items) }
+    { run_workers(rt, alloc, level, crew, other, gate) };
     let (front, back) = join(rt, front, back);
     let mut front = front?;
     let mut back = back?;
-    tickets.join(&mut front.pass, back.pass);
+    crew.tickets.join(&mut front.pass, back.pass);
     front.entries.append(&mut back.entries)?;
     Ok(front)
 }

@@ -1,6 +1,6 @@
 ghost use Rattle.std.specs.Prelude.{◌≡◌, ◌+◌, ◌*◌, true, false, [], ◌∷◌, IfSome};
 
-use crate::{Gate, Job, NoGate, Pass, Tickets, run_jobs};
+use crate::{Gate, Job, NoGate, Pass, Ticket, Tickets, run_jobs};
 use star_io::NoMemory;
 use std::alloc::Global;
 use std::sync::atomic::{AtomicU64, Ordering};
@@ -33,8 +33,8 @@ impl Job for Doubles {
         self.count
     }
 
-    fn work(&self, _alloc: Global, number: u64) -> Result<u64, NoMemory> {
-        match number.checked_mul(2) {
+    fn work(&self, _alloc: Global, ticket: Ticket<'_>) -> Result<u64, NoMemory> {
+        match ticket.number().checked_mul(2) {
             Some(twice) => Ok(twice),
             None => Err(NoMemory),
         }

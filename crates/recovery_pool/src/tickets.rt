@@ -10,6 +10,32 @@ use star_io::NoMemory;
 use std::alloc::Global;
 use std::marker::{Brand, Model};
 
+/// The right to do one job, once. It is seen as the job's number and the tickets that drew it.
+///
+/// Only a draw makes one, and [`Job::work`](crate::Job::work) uses it up. It can't be copied.
+#[derive(Drop)]
+pub struct Ticket<'t> {
+    of: &'t Tickets,
+    number: u64,
+}
+
+impl<'t> Model for Ticket<'t> {
+    ghost use Rattle.recovery_pool.specs.Seen.{TicketSeen};
+
+    ghost Value = { TicketSeen };
+
+    ghost view = { λ t. record { number = t.number; of = t.of.now.id } };
+}
+
+impl<'t> Ticket<'t> {
+    /// The job's number, which counts from 0.
+    pub fn number(&self) -> u64
+        ensures { result ≡ self.now.number }
+    {
+        self.number
+    }
+}
+
 /// The numbers below the number of jobs, each to be drawn once, by passes in any threads.
 ///
 /// The next number stands in one word that all passes share. One draw is one `fetch_add` of 1 on
@@ -77,10 +103,37 @@ impl Tickets {
         Ok((tickets, pass))
     }
 
-    /// Takes the next number, or `None` where no number is left; the pass is then spent.
+    /// Takes the next number, as the ticket of its job, or `None` where no number is left; the pass
+    /// is then spent.
     ///
     /// It answers `Some` exactly where its one step on the word read a number below the number of
-    /// jobs, and answers that number.
+    /// jobs, and answers the ticket of that number.
+    pub fn draw_ticket(&self, pass: &mut Pass) -> Option<Ticket<'_>>
+        requires belongs { pass.old.of ≡ self.now.id }
+        requires live { pass.old.spent ≡ false }
+        ensures exactly { IsSome result ↔ (pass.new.found < self.now.id.jobs) }
+        ensures number { IfSome result (λ t. t.number ≡ pass.new.found) }
+        ensures of { IfSome result (λ t. t.of ≡ self.now.id) }
+        ensures drawn { MatchOption result (pass.new.drawn ≡ pass.old.drawn)
+            (λ t. pass.new.drawn ≡ pass.old.drawn ++ t.number ∷ []) }
+        ensures spent { pass.new.spent ≡ is_none result }
+        ensures few { length pass.new.drawn ≤ self.now.id.jobs }
+        ensures share { pass.new.share ≡ pass.old.share }
+        ensures belongs { pass.new.of ≡ self.now.id }
+    {
+        let found = self.table.shared.fetch_add::<Draw>(&mut pass.seat, 0, 1);
+        if found < self.jobs {
+            Some(Ticket {
+                of: self,
+                number: found,
+            })
+        } else {
+            pass.spent = true;
+            None
+        }
+    }
+
+    /// The same for callers that do no job: it answers the number, and nobody may then do its job.
     pub fn draw(&self, pass: &mut Pass) -> Option<u64>
         requires belongs { pass.old.of ≡ self.now.id }
         requires live { pass.old.spent ≡ false }
@@ -93,13 +146,8 @@ impl Tickets {
         ensures share { pass.new.share ≡ pass.old.share }
         ensures belongs { pass.new.of ≡ self.now.id }
     {
-        let found = self.table.shared.fetch_add::<Draw>(&mut pass.seat, 0, 1);
-        if found < self.jobs {
-            Some(found)
-        } else {
-            pass.spent = true;
-            None
-        }
+        let ticket = self.draw_ticket(pass)?;
+        Some(ticket.number)
     }
 
     /// Makes a new pass, which gets a part of the share of this one.

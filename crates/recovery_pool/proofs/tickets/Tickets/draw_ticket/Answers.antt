@@ -1,6 +1,6 @@
 use Rattle.std.proofs.Common.{◌≡◌, arith, ◌∙◌, ap, sym, rules, false}
 use Rattle.recovery_pool.proofs.RuleKept.{draws}
-use Rattle.recovery_pool.proofs.tickets.Tickets.draw.Goals as goal
+use Rattle.recovery_pool.proofs.tickets.Tickets.draw_ticket.Goals as goal
 
 pub fetch_add-found-requires : goal.fetch_add-found-requires
 fetch_add-found-requires c =
