@@ -1,10 +1,11 @@
 -- What a caller asks for, what is wrong with it, and the report that it gets.
-use Rattle.std.specs.Prelude.{ℕ, ◌≡◌, ◌≢◌, ◌⊎◌, ◌+◌, ◌*◌, ◌≤◌, ◌<◌, List, [], length}
+use Rattle.std.specs.Prelude.{ℕ, ◌≡◌, ◌≢◌, ◌⊎◌, ◌+◌, ◌*◌, ◌≤◌, ◌<◌, List, [], length, nat_eq, if◌then◌else◌}
 use Rattle.report_frame.specs.declared.limits.TheConstants.{FIXED_BYTES, MAX_EXTRA}
 use Rattle.report_frame.specs.declared.version.Version.TheVariants.{One}
 use Rattle.report_frame.specs.Versions.{version_of}
 use Rattle.report_frame.specs.Thresholds.{AreThresholds}
 use Rattle.report_frame.specs.Frame.{IsFrame}
+use Rattle.nest_client.specs.declared.limits.TheConstants.{MAX_REPORT_ONE, MAX_REPORT_TWO}
 use Rattle.nest_client.specs.Report.{client_of, report_with}
 use Rattle.star_client_c.specs.Cells.{IsRow, HasRow}
 use Rattle.star_client_c.specs.declared.status.TheConstants.{BAD_VERSION, BAD_THRESHOLDS, BAD_VALUES, BAD_EXTRA, BAD_SEED, SMALL_BUFFER}
@@ -51,6 +52,10 @@ IsFault status r =
 -- how long the report is
 abbrev pub report_length : Request → ℕ
 report_length r = FIXED_BYTES * length r.thresholds + length r.cells + length r.extra
+
+-- how long a report of a version is at most
+abbrev pub most_bytes : ℕ → ℕ
+most_bytes version = if nat_eq version 1 then MAX_REPORT_ONE else MAX_REPORT_TWO
 
 -- the status says what is wrong first with a request, its seed and the room for its report
 abbrev pub IsMakingFault : ℕ → Request → List ℕ → ℕ → Type 0

@@ -3,9 +3,10 @@
 #![tactic(auto)]
 
 ghost use Rattle.std.specs.Prelude.{◌≡◌, ◌≢◌, ◌↔◌, ◌≤◌, take, drop, length, IsSome, IfSome};
-ghost use Rattle.star_client_c.specs.Request.{request, report_length, IsFault, IsGood, IsMakingFault, IsReport};
+ghost use Rattle.star_client_c.specs.Request.{request, report_length, most_bytes, IsFault, IsGood, IsMakingFault, IsReport};
 ghost use Rattle.star_client_c.specs.declared.status.TheConstants.{DONE};
 
+pub mod laws;
 mod request;
 mod row;
 mod status;
@@ -36,6 +37,7 @@ pub extern "C" fn star_client_report(
         (take written.new out.new) }
     ensures length { result ≡ DONE →
         written.new ≡ report_length (request version cells.now thresholds.now extra.now) }
+    ensures most { result ≡ DONE → written.new ≤ most_bytes version }
     ensures rest { result ≡ DONE → drop written.new out.new ≡ drop written.new out.old }
     ensures good { result ≡ DONE → IsGood (request version cells.now thresholds.now extra.now)
         × (length seed.now ≡ 32) × (written.new ≤ length out.old) }
@@ -82,6 +84,7 @@ pub extern "C" fn star_client_length(
     ensures good { result ≡ DONE → IsGood (request version cells.now thresholds.now extra.now) }
     ensures length { result ≡ DONE →
         written.new ≡ report_length (request version cells.now thresholds.now extra.now) }
+    ensures most { result ≡ DONE → written.new ≤ most_bytes version }
     ensures fault { result ≢ DONE →
         IsFault result (request version cells.now thresholds.now extra.now) }
     ensures kept { result ≢ DONE → written.new ≡ written.old }
