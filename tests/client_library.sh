@@ -1,11 +1,11 @@
 #!/usr/bin/env bash
-# The client as a library: builds it, and compares what C, Python, Rust and (where Node is here) the WebAssembly module make with
-# those of tests/plain, and what faulty calls give with what they have to. The last line is 'ok' where all passed.
+# The client as a library: whether archive and module are those of the crates; then compares what C, Python, Rust and (where Node is here) the
+# WebAssembly module make with what tests/plain makes, and what faulty calls give with what they have to. The last line is 'ok' where all passed.
 set -e
 cd "$(dirname "$0")/.."
 work=$(mktemp -d)
 trap 'rm -rf "$work"' EXIT
-lib=bindings/out
+lib=bindings/c/lib/x86_64-linux
 
 bash bindings/build.sh
 ${CC:-cc} -O2 -Wall -Wextra -Werror -Ibindings/c -o "$work/lines_c" tests/client/lines.c $lib/libstar_client.a
