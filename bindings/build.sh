@@ -35,6 +35,7 @@ if [ "$1" = --write ]; then
     chmod 644 $lib/libstar_client.*
     { python3 bindings/sources.py; echo "$linker"; } >$lib/BUILT_FROM
     (cd $lib && sha256sum libstar_client.a libstar_client.so >SHA256SUMS)
+    bash bindings/carried.sh --write
     echo "$lib is written, $(stat -c %s $lib/libstar_client.a) and $(stat -c %s $lib/libstar_client.so) bytes"
     exit 0
 fi

@@ -2,9 +2,9 @@
  * The client of Nested STAR: it makes one report in the caller's buffer.
  *
  * Both functions are proved in crates/star_client_c (src/lib.rt): with good arguments and room they always give the report, whose
- * bytes are those that docs/FORMATS.md describes, and after a fault nothing is written. They take no memory, keep no state, call
- * nothing of the system, and may be called by many threads at once: so they are made, and no clause says it. A call needs less than
- * 20 KB of stack, which is measured and not proved.
+ * bytes are those that docs/FORMATS.md describes, and after a fault nothing is written. By construction they take no memory, keep no
+ * state, call nothing of the system, and may be called by many threads at once. Measured and not proved: a call needs less than 20 KB of
+ * stack.
  *
  * What the proof takes for granted, and the caller sees to:
  *  - no pointer is null, also where a length is 0;
@@ -36,19 +36,29 @@ enum star_client_status {
 };
 
 #define STAR_CLIENT_SEED_BYTES 32
-#define STAR_CLIENT_MAX_CELLS 1040   /* the cells of 16 values of 64 bytes */
-#define STAR_CLIENT_MAX_REPORT 3487  /* no report is longer; in version 1 none is longer than 1616 */
+#define STAR_CLIENT_MAX_CELLS 1040   /* bytes: the cells of 16 values of 64 bytes */
+#define STAR_CLIENT_MAX_REPORT 3487  /* bytes: no report is longer; in version 1 none is longer than 1616 */
+#define STAR_CLIENT_MAX_RECORD 3491  /* bytes: a report behind its length */
 
 /*
  * Writes the report into the front of `out`, and its length into `*written`.
  *
- *  version     1 or 2
- *  cells       for each value one byte, how many bytes it has (1 to 64), and then these
- *  thresholds  one number for each value: from how many reports on the aggregator may learn it
- *  extra       what the aggregator learns where it learns the last value; empty in version 1
- *  epoch       only reports of one epoch are counted together
- *  seed        32 bytes of which nobody knows anything
- *  client      any number, such as 0; several reports from one seed need different ones
+ *  version            1 or 2; any other number is STAR_CLIENT_BAD_VERSION
+ *  cells              for each value one byte, how many bytes it has (1 to 64), and then these bytes
+ *  cells_length       bytes of cells, from 2 to 65 for each threshold; cells that aren't those of as many values as there are
+ *                     thresholds, up to the last byte, are STAR_CLIENT_BAD_VALUES
+ *  thresholds         one number for each value, reports: from how many with this value on the aggregator may learn it. From 2 to 512,
+ *                     in version 2 from 2 to 4096; anything else is STAR_CLIENT_BAD_THRESHOLDS
+ *  thresholds_length  numbers, not bytes: from 1 to 8, in version 2 from 1 to 16; anything else is STAR_CLIENT_BAD_THRESHOLDS
+ *  extra              what the aggregator learns where it learns the last value
+ *  extra_length       bytes: 0 in version 1, from 0 to 255 in version 2; more is STAR_CLIENT_BAD_EXTRA
+ *  epoch              any number of 32 bits: only reports of one epoch are counted together
+ *  seed               bytes of which nobody knows anything
+ *  seed_length        bytes: 32; anything else is STAR_CLIENT_BAD_SEED
+ *  client             any number of 32 bits, such as 0; several reports from one seed need different ones
+ *  out                room for the report
+ *  out_length         bytes of room; less than the report is long is STAR_CLIENT_SMALL_BUFFER, and more stays as it is
+ *  written            receives the length of the report in bytes
  *
  * Anything but STAR_CLIENT_DONE leaves `out` and `*written` as they were.
  */
@@ -58,11 +68,46 @@ uint32_t star_client_report(uint32_t version, const uint8_t *cells, size_t cells
                             size_t *written);
 
 /*
- * Writes into `*written` how long that report will be: 137 for each threshold, and as many as there are cells and extra bytes.
+ * Writes into `*written` how many bytes that report will have: 137 for each threshold, and as many as there are cells and extra bytes.
  * The faults are those of the report but for seed and room; after one, `*written` is as it was.
  */
 uint32_t star_client_length(uint32_t version, const uint8_t *cells, size_t cells_length, const uint16_t *thresholds,
                             size_t thresholds_length, const uint8_t *extra, size_t extra_length, size_t *written);
+
+/*
+ * Writes a record into the front of `out`: the length of the report in four bytes, most significant first, and the report. Records one
+ * behind the other are a stream, which `star_tool reveal` reads. The arguments are those of star_client_report, but that `out_length`
+ * and `*written` count the four bytes too; the answers are the same, and after a fault `out` and `*written` are as they were.
+ * This helper is tested and not proved.
+ */
+static inline uint32_t star_client_record(uint32_t version, const uint8_t *cells, size_t cells_length, const uint16_t *thresholds,
+                                          size_t thresholds_length, const uint8_t *extra, size_t extra_length, uint32_t epoch,
+                                          const uint8_t *seed, size_t seed_length, uint32_t client, uint8_t *out, size_t out_length,
+                                          size_t *written) {
+    /* With less than four bytes of room no report fits, so that the answer is a fault and nothing is written. */
+    const size_t front = out_length < 4 ? out_length : 4;
+    size_t length = 0;
+    const uint32_t status = star_client_report(version, cells, cells_length, thresholds, thresholds_length, extra, extra_length, epoch, seed,
+                                               seed_length, client, out + front, out_length - front, &length);
+    if (status != STAR_CLIENT_DONE) return status;
+    out[0] = (uint8_t)(length >> 24), out[1] = (uint8_t)(length >> 16), out[2] = (uint8_t)(length >> 8), out[3] = (uint8_t)length;
+    *written = 4 + length;
+    return STAR_CLIENT_DONE;
+}
+
+/* What a status says: the argument and its limit. Any other number is told as unknown. */
+static inline const char *star_client_status_text(uint32_t status) {
+    switch (status) {
+    case STAR_CLIENT_DONE: return "done";
+    case STAR_CLIENT_BAD_VERSION: return "version is neither 1 nor 2";
+    case STAR_CLIENT_BAD_THRESHOLDS: return "thresholds are not 1 to 8 numbers from 2 to 512, or in version 2 not 1 to 16 from 2 to 4096";
+    case STAR_CLIENT_BAD_VALUES: return "cells are not those of one value of 1 to 64 bytes for each threshold";
+    case STAR_CLIENT_BAD_EXTRA: return "extra has more than 255 bytes, or any in version 1";
+    case STAR_CLIENT_BAD_SEED: return "seed has other than 32 bytes";
+    case STAR_CLIENT_SMALL_BUFFER: return "out has less room than the report is long";
+    default: return "unknown status";
+    }
+}
 
 #ifdef __cplusplus
 }

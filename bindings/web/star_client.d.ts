@@ -1,52 +1,91 @@
 /** The bytes of a seed. */
 export const SEED_BYTES: 32;
-/** The most bytes of a value. */
+/** The most bytes of a value; it has one at least. */
 export const MAX_VALUE: 64;
-/** The most extra bytes of a report of version 2. */
+/** The most extra bytes of a report of version 2; one of version 1 has none. */
 export const MAX_EXTRA: 255;
-/** The most bytes of a report. */
+/** The most layers of a report, by its version. */
+export const MAX_LAYERS: Readonly<Record<1 | 2, number>>;
+/** The greatest threshold, by the version; the least is 2 in both. */
+export const MAX_THRESHOLD: Readonly<Record<1 | 2, number>>;
+/** The most bytes of a report; in version 1 it has at most 1616. */
 export const MAX_REPORT: 3487;
+/** The most bytes of a record: a report and the four of its length. */
+export const MAX_RECORD: 3491;
 
 /** What can be wrong with a request, by its status. */
 export type Status = 1 | 2 | 3 | 4 | 5;
 export const FAULTS: Readonly<Record<Status, string>>;
 
-/** A request that no report can be made of. */
+/** A request that no report can be made of. The message names the argument and its limit. */
 export class ClientError extends Error {
+  constructor(status: Status, message?: string);
   readonly status: Status;
 }
 
-/** Bytes, or a text that stands for its bytes in UTF-8. */
+/** Bytes, each from 0 to 255, or a text that stands for its bytes in UTF-8. */
 export type Bytes = string | Uint8Array | readonly number[];
 
-/** What a report says. */
-export interface Content {
-  /** 1 (the default): 1 to 8 layers, thresholds from 2 to 512. 2: 1 to 16 layers, thresholds from 2 to 4096, extra bytes. */
+/** What the layers of a report are. What is beyond a limit is a ClientError. */
+export interface Layers {
+  /** 1 (the default) or 2. */
   version?: 1 | 2;
-  /** One value of 1 to 64 bytes for each layer. */
-  values: readonly Bytes[];
-  /** One for each value: from how many reports on the aggregator may learn it. */
+  /** From how many reports on the aggregator may learn each value: 1 to 8 numbers from 2 to 512, in version 2 1 to 16 from 2 to 4096. */
   thresholds: readonly number[];
-  /** What the aggregator learns beside the last value: up to 255 bytes, none in version 1. */
+}
+
+/** What a report says. */
+export interface Content extends Layers {
+  /** One value of 1 to 64 bytes for each threshold. */
+  values: readonly Bytes[];
+  /** What the aggregator learns where it learns the last value: up to 255 bytes in version 2, none in version 1. */
   extra?: Bytes;
 }
 
 /** A report to make. */
 export interface Request extends Content {
-  /** Only reports of one epoch are counted together. */
+  /** From 0 to 4294967295, else a RangeError: only reports of one epoch are counted together. */
   epoch: number;
   /** 32 bytes. Drawn for this report where it is left out, which is what a client that stands alone wants. */
-  seed?: Uint8Array | readonly number[];
-  /** Which report of its seed this is: 0 where the seed is drawn. A seed and a number make one report, ever. */
+  seed?: Bytes;
+  /** From 0 to 4294967295, else a RangeError: 0 where the seed is drawn. A seed and a number make one report, ever. */
   client?: number;
 }
 
+/** Reports to make, each with a seed of its own. */
+export interface Requests extends Layers {
+  /** A row of values for each report. */
+  rows: Iterable<readonly Bytes[]>;
+  /** The extra bytes of each row, where the reports have some. */
+  extras?: Iterable<Bytes>;
+  /** As in a request. */
+  epoch: number;
+  /** Is called with the number of records made, some thirty times a second, and at the end. */
+  progress?: (made: number) => void;
+}
+
 export interface Client {
-  /** The bytes of a report. */
+  /** The report behind its length of four bytes, as it stands in a stream: records joined are one. */
+  record(request: Request): Uint8Array;
+  /** The bytes of a report alone. */
   report(request: Request): Uint8Array;
-  /** How many bytes that report has. */
+  /** A stream: a record for each row. A fault names its row, and then there is no stream. The page goes on meanwhile. */
+  records(requests: Requests): Promise<Uint8Array>;
+  /** How many bytes that report has; its record has four more. */
   length(content: Content): number;
 }
 
-/** The client of star_client.wasm: its bytes, or a response of them, as of `fetch`. */
-export function load(source: BufferSource | Response | Promise<Response>): Promise<Client>;
+/**
+ * The client of the module beside this file: star_client.wasm, or star_client_32.wasm where the engine has no 64-bit memory.
+ * Handed bytes of a module, or a response of them as of `fetch`, it takes those.
+ */
+export function load(source?: BufferSource | Response | Promise<BufferSource | Response>): Promise<Client>;
+
+/** The address of the module that `load()` takes in this engine. */
+export function moduleAddress(): URL;
+
+/** What `normalized` trims: Unicode's White_Space, U+001C to U+001F, and U+FEFF. */
+export const TRIMMED: string;
+
+/** The text without the characters of TRIMMED at its ends, in NFC, and where asked in lower case. */
+export function normalized(text: string, options?: { lower?: boolean }): string;

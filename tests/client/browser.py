@@ -4,7 +4,7 @@
     browser.py FOLDER
 
 A server on this machine serves bindings/web and one page more, a frame around index.html that fills its form, has it make reports, and
-posts what came of it back here. FOLDER gets a screenshot of each browser and the stream of the form's reports, page.stream. The last
+posts what came of it back here; the lowered module and the normal form are tried too. FOLDER gets a screenshot of each browser and the stream of the form's reports, page.stream. The last
 line is 'N passed, M failed'.
 """
 import http.server
@@ -25,9 +25,9 @@ from random_requests import random_request
 from shared import write_record
 
 PAGE = os.path.join(HERE, "..", "..", "bindings", "web")
-CASES = 300
+CASES = 500
 
-# Fills the form for each of some clients, and makes 300 reports through the page's own module.
+# Fills the form for each of some clients, and makes 500 reports through the page's own module and through the lowered one.
 DRIVER = """<!doctype html><meta charset="utf-8"><style>body{margin:0}iframe{border:0;width:1120px;height:1300px}</style>
 <iframe id="page" src="index.html"></iframe><img src="wait.gif" alt="" style="display:none">
 <script type="module">
@@ -49,6 +49,11 @@ try {
   const client = page.starClient;
   const request = (c) => ({ ...c, values: c.values.map(bytesOf), extra: bytesOf(c.extra), seed: bytesOf(c.seed) });
   result.made = asked.cases.map((c) => hexOf(client.report(request(c))));
+  // The lowered module and the normal form, by the package's own script.
+  const { load, normalized } = await import("./star_client.mjs");
+  const lowered = await load(fetch("star_client_32.wasm"));
+  result.lowered = asked.cases.map((c) => hexOf(lowered.report(request(c))));
+  result.normal = asked.texts.map(({ text }) => [normalized(text), normalized(text, { lower: true })]);
   const time = (c, times) => { const from = performance.now(); for (let i = 0; i < times; i++) client.report(c); return 1000 * (performance.now() - from) / times; };
   const two = { values: ["Germany", "Berlin"], thresholds: [20, 10], epoch: 1, seed: new Uint8Array(32), client: 0 };
   const eight = { ...two, values: [..."abcdefgh"], thresholds: new Array(8).fill(512) };
@@ -134,7 +139,9 @@ def commands(address, folder, scratch):
 
 def main():
     folder = sys.argv[1]
-    Handler.asked = {"form": form_requests(), "cases": cases()}
+    with open(os.path.join(HERE, "normal.json"), encoding="utf-8") as file:
+        texts = json.load(file)["texts"]
+    Handler.asked = {"form": form_requests(), "cases": cases(), "texts": texts}
     want = [wanted(case) for case in Handler.asked["cases"]]
     server = http.server.ThreadingHTTPServer(("127.0.0.1", 0), Handler)
     threading.Thread(target=server.serve_forever, daemon=True).start()
@@ -144,16 +151,18 @@ def main():
             Handler.told, Handler.done = None, threading.Event()
             env = dict(os.environ, HOME=scratch, MOZ_HEADLESS="1")
             run = subprocess.run(words, capture_output=True, text=True, timeout=300, env=env)
-            told = Handler.told or {"form": [], "made": [], "error": "no answer: " + run.stderr[-500:]}
+            told = Handler.told or {"error": "no answer: " + run.stderr[-500:]}
             if "error" in told:
                 print("%s: %s" % (name, told["error"]))
             form = [wanted({"version": 1, "epoch": 1, "thresholds": [20, 10], "extra": "", **f, "values": [v.encode().hex() for v in f["values"]]})
                     for f in Handler.asked["form"]]
-            answers += [("%s, report %d" % (name, i), i < len(told["made"]) and told["made"][i] == text) for i, text in enumerate(want)]
-            answers += [("%s, form %d" % (name, i), i < len(told["form"]) and told["form"][i] == {"report": text, "fault": ""}) for i, text in enumerate(form)]
+            normal = [[it["normal"], it["lower"]] for it in texts]
+            for what, wants in (("made", want), ("lowered", want), ("normal", normal), ("form", [{"report": text, "fault": ""} for text in form])):
+                got = told.get(what, [])
+                answers += [("%s, %s %d" % (name, what, i), i < len(got) and got[i] == wanted_one) for i, wanted_one in enumerate(wants)]
             if "two" in told:
                 print("%s: two layers %.0f us, eight with thresholds of 512 %.0f us; %s" % (name, told["two"], told["eight"], told["agent"]))
-            if name == "chromium" and told["form"]:
+            if name == "chromium" and told.get("form"):
                 with open(os.path.join(folder, "page.stream"), "wb") as file:
                     file.write(b"".join(write_record(bytes.fromhex(f["report"])) for f in told["form"]))
     server.shutdown()

@@ -1,4 +1,5 @@
-/* Faulty calls of the library: each gives its status, and leaves buffer and length untouched. Built with -fsanitize=address. */
+/* Faulty calls of the library, and of the helper for records: each gives its status, and leaves buffer and length untouched.
+ * Built with -fsanitize=address. */
 #include "star_client.h"
 
 #include <stdio.h>
@@ -49,6 +50,28 @@ static void *copy_of(const void *bytes, size_t n) {
     return copy;
 }
 
+/* The same call for a record: four bytes more of room and of what is written, and with less than four the fault that comes first. */
+static int passes_as_record(const struct call *c, size_t room, const uint8_t *report, size_t length) {
+    static const uint8_t zeros[256];
+    uint8_t *cells = copy_of(c->cells, c->cells_length), *out = malloc(room + 1);
+    memset(out, 0xaa, room + 1);
+    size_t written = 77;
+    uint32_t status = star_client_record(c->version, cells, c->cells_length, c->thresholds, c->layers, zeros, c->extra_length, 7, zeros,
+                                         c->seed_length, 0, out, room, &written);
+    uint32_t wanted = c->status == STAR_CLIENT_DONE && room < 4 + c->room ? STAR_CLIENT_SMALL_BUFFER : c->status;
+    int good = status == wanted && out[room] == 0xaa;
+    if (status == STAR_CLIENT_DONE) {
+        const uint8_t front[4] = {0, 0, (uint8_t)(length >> 8), (uint8_t)length};
+        good = good && written == 4 + length && !memcmp(out, front, 4) && !memcmp(out + 4, report, length);
+    } else {
+        for (size_t i = 0; i < room; i++) good = good && out[i] == 0xaa;
+        good = good && written == 77;
+    }
+    if (!good) printf("%s: as a record in %zu bytes, status %u\n", c->name, room, (unsigned)status);
+    free(cells), free(out);
+    return good;
+}
+
 static int passes(const struct call *c) {
     static const uint8_t zeros[256];
     uint8_t *cells = copy_of(c->cells, c->cells_length), *extra = copy_of(zeros, c->extra_length), *seed = copy_of(zeros, c->seed_length);
@@ -68,13 +91,23 @@ static int passes(const struct call *c) {
         good = good && written == 77;
     }
     if (!good) printf("%s: status %u, length %u\n", c->name, (unsigned)status, (unsigned)other);
+    for (size_t room = 0; room < 5; room++) good &= passes_as_record(c, room, out, written);
+    good &= passes_as_record(c, c->room + 4, out, written);
     free(cells), free(extra), free(seed), free(thresholds), free(out);
     return good;
 }
 
+/* Each status has a text of its own, and no other number has one of theirs. */
+static int texts_differ(void) {
+    int good = 1;
+    for (uint32_t i = 0; i <= STAR_CLIENT_SMALL_BUFFER + 1; i++)
+        for (uint32_t j = 0; j < i; j++) good = good && strcmp(star_client_status_text(i), star_client_status_text(j));
+    return good && !strcmp(star_client_status_text(STAR_CLIENT_SMALL_BUFFER + 1), star_client_status_text(UINT32_MAX));
+}
+
 int main(void) {
-    size_t all = sizeof CALLS / sizeof *CALLS, good = 0;
-    for (size_t i = 0; i < all; i++) good += (size_t)passes(&CALLS[i]);
+    size_t all = 1 + sizeof CALLS / sizeof *CALLS, good = (size_t)texts_differ();
+    for (size_t i = 0; i < all - 1; i++) good += (size_t)passes(&CALLS[i]);
     printf("%zu passed, %zu failed\n", good, all - good);
     return good < all;
 }

@@ -42,21 +42,27 @@ int main(int argc, char **argv) {
         uint32_t version = (uint32_t)strtoul(words[0], NULL, 10), epoch = (uint32_t)strtoul(words[1], NULL, 10);
         uint32_t client = (uint32_t)strtoul(words[2], NULL, 10), status = 0;
 
-        struct timespec from, to;
-        clock_gettime(CLOCK_PROCESS_CPUTIME_ID, &from);
+        clock_t from = clock();
         for (int i = 0; i < times; i++)
             status = star_client_report(version, cells, cells_length, thresholds, layers, extra, extra_length, epoch, seed, seed_length,
                                         client, out, sizeof out, &written);
-        clock_gettime(CLOCK_PROCESS_CPUTIME_ID, &to);
-        if (argc > 1)
-            fprintf(stderr, "%zu layers: %.2f us\n", layers, ((to.tv_sec - from.tv_sec) * 1e6 + (to.tv_nsec - from.tv_nsec) / 1e3) / times);
+        double taken = (double)(clock() - from) / CLOCKS_PER_SEC;
+        if (argc > 1) fprintf(stderr, "%u layers: %.2f us\n", (unsigned)layers, 1e6 * taken / times);
 
         if (status != STAR_CLIENT_DONE) {
             printf("status %u\n", (unsigned)status);
             continue;
         }
         if (star_client_length(version, cells, cells_length, thresholds, layers, extra, extra_length, &needed) || needed != written) {
-            printf("length %zu, and not %zu\n", needed, written);
+            printf("length %u, and not %u\n", (unsigned)needed, (unsigned)written);
+            continue;
+        }
+        static uint8_t record[STAR_CLIENT_MAX_RECORD];
+        size_t recorded = 0;
+        if (star_client_record(version, cells, cells_length, thresholds, layers, extra, extra_length, epoch, seed, seed_length, client, record,
+                               sizeof record, &recorded) || recorded != 4 + written || memcmp(record + 4, out, written) ||
+            record[0] || record[1] || (size_t)(record[2] << 8 | record[3]) != written) {
+            puts("the record is another one");
             continue;
         }
         for (size_t i = 0; i < written; i++) printf("%02x", out[i]);

@@ -1,5 +1,5 @@
 // Makes the report of each line of standard input through the crate in bindings/rust, as lines.c does.
-use star_client::{Fault, Request, Version, report};
+use star_client::{Request, Version, record, report};
 use std::io::BufRead;
 
 fn bytes_of(hex: &str) -> Vec<u8> {
@@ -25,11 +25,13 @@ fn main() {
             epoch: words[1].parse().unwrap(),
         };
         let seed = bytes_of(words[3]).try_into().unwrap();
-        match report(&request, &seed, words[2].parse().unwrap()) {
-            Ok(report) => println!("{}", report.iter().map(|b| format!("{b:02x}")).collect::<String>()),
-            Err(Fault::Thresholds) => println!("status 2"),
-            Err(Fault::Values) => println!("status 3"),
-            Err(Fault::Extra) => println!("status 4"),
+        let client = words[2].parse().unwrap();
+        match (report(&request, &seed, client), record(&request, &seed, client)) {
+            (Ok(report), Ok(record)) if record[..4] == (report.len() as u32).to_be_bytes() && record[4..] == report[..] => {
+                println!("{}", report.iter().map(|b| format!("{b:02x}")).collect::<String>())
+            }
+            (Err(fault), Err(other)) if fault == other => println!("status {}", fault.status()),
+            other => println!("{other:?}"),
         }
     }
 }

@@ -1,15 +1,36 @@
 //! The client of Nested STAR: one report of one client, by the proved static library.
 //!
 //! One seed and client number make one report, ever: draw the seed afresh for each report, from the
-//! system's source of random bytes. docs/CLIENTS.md says what else a client sees to.
+//! system's source of random bytes. docs/CLIENTS.md of the repository says what else a client sees to.
+//!
+//! ```
+//! use star_client::{Request, Version, record};
+//! use std::io::Read;
+//!
+//! let mut seed = [0; 32];
+//! std::fs::File::open("/dev/urandom")?.read_exact(&mut seed)?;
+//! let request = Request { version: Version::One, values: &[b"Germany", b"Berlin"], thresholds: &[20, 10], extra: b"", epoch: 1 };
+//! let bytes = record(&request, &seed, 0)?;
+//! assert_eq!(bytes.len(), 293);
+//! # Ok::<(), Box<dyn std::error::Error>>(())
+//! ```
 
 use std::fmt;
 
 /// The bytes of a seed.
 pub const SEED_BYTES: usize = 32;
 
-/// The most bytes of a value.
+/// The most bytes of a value; it has one at least.
 pub const MAX_VALUE: usize = 64;
+
+/// The most extra bytes of a report of version 2; one of version 1 has none.
+pub const MAX_EXTRA: usize = 255;
+
+/// The most bytes of a report; in version 1 it has at most 1616.
+pub const MAX_REPORT: usize = 3487;
+
+/// The most bytes of a record.
+pub const MAX_RECORD: usize = 4 + MAX_REPORT;
 
 unsafe extern "C" {
     fn star_client_report(
@@ -50,24 +71,86 @@ pub enum Version {
     Two,
 }
 
-/// What is wrong with a request.
+impl Version {
+    /// Its number in a report.
+    pub const fn number(self) -> u32 {
+        match self {
+            Version::One => 1,
+            Version::Two => 2,
+        }
+    }
+
+    /// The most layers of a report; it has one at least.
+    pub const fn max_layers(self) -> usize {
+        match self {
+            Version::One => 8,
+            Version::Two => 16,
+        }
+    }
+
+    /// The greatest threshold; the least is 2.
+    pub const fn max_threshold(self) -> u16 {
+        match self {
+            Version::One => 512,
+            Version::Two => 4096,
+        }
+    }
+
+    /// The most extra bytes.
+    pub const fn max_extra(self) -> usize {
+        match self {
+            Version::One => 0,
+            Version::Two => MAX_EXTRA,
+        }
+    }
+}
+
+/// What is wrong with a request: the argument, and what of it is beyond its limit.
 #[derive(Clone, Copy, Debug, PartialEq, Eq)]
+#[non_exhaustive]
 pub enum Fault {
-    /// There are too few or too many thresholds for the version, or one is out of its range.
-    Thresholds,
-    /// There is not one value of 1 to 64 bytes for each threshold.
-    Values,
-    /// There are more than 255 extra bytes, or any in version 1.
-    Extra,
+    /// There is no threshold, or there are more than the version has layers.
+    Layers { version: Version, thresholds: usize },
+    /// The threshold at the index is out of the version's range.
+    Threshold { version: Version, index: usize, threshold: u16 },
+    /// There is not one value for each threshold.
+    Values { values: usize, thresholds: usize },
+    /// The value at the index has no byte, or more than 64.
+    Value { index: usize, bytes: usize },
+    /// There are more extra bytes than the version has.
+    Extra { version: Version, bytes: usize },
+}
+
+impl Fault {
+    /// The status of `star_client.h` that it is.
+    pub const fn status(&self) -> u32 {
+        match self {
+            Fault::Layers { .. } | Fault::Threshold { .. } => 2,
+            Fault::Values { .. } | Fault::Value { .. } => 3,
+            Fault::Extra { .. } => 4,
+        }
+    }
 }
 
 impl fmt::Display for Fault {
     fn fmt(&self, f: &mut fmt::Formatter<'_>) -> fmt::Result {
-        f.write_str(match self {
-            Fault::Thresholds => "the thresholds don't fit the version",
-            Fault::Values => "there is not one value of 1 to 64 bytes for each threshold",
-            Fault::Extra => "there are too many extra bytes for the version",
-        })
+        match *self {
+            Fault::Layers { version, thresholds } => {
+                write!(f, "thresholds has {thresholds} numbers; version {} has 1 to {}", version.number(), version.max_layers())
+            }
+            Fault::Threshold { version, index, threshold } => {
+                let (number, most) = (version.number(), version.max_threshold());
+                write!(f, "thresholds[{index}] is {threshold}; in version {number} it is from 2 to {most}")
+            }
+            Fault::Values { values, thresholds } => {
+                write!(f, "values has {values} items; thresholds has {thresholds}, and each needs one")
+            }
+            Fault::Value { index, bytes } => write!(f, "values[{index}] has {bytes} bytes; a value has 1 to {MAX_VALUE}"),
+            Fault::Extra { version: Version::One, bytes } => write!(f, "extra has {bytes} bytes; version 1 has none"),
+            Fault::Extra { version: Version::Two, bytes } => {
+                write!(f, "extra has {bytes} bytes; version 2 has at most {MAX_EXTRA}")
+            }
+        }
     }
 }
 
@@ -77,24 +160,94 @@ impl std::error::Error for Fault {}
 #[derive(Clone, Copy, Debug)]
 pub struct Request<'a> {
     pub version: Version,
+    /// One for each threshold, of 1 to 64 bytes.
     pub values: &'a [&'a [u8]],
-    /// One for each value: from how many reports on the aggregator may learn it.
+    /// From how many reports on the aggregator may learn each value: 1 to 8 numbers from 2 to 512,
+    /// in version 2 1 to 16 numbers from 2 to 4096.
     pub thresholds: &'a [u16],
-    /// What the aggregator learns beside the last value. Empty in version 1.
+    /// What the aggregator learns where it learns the last value: up to 255 bytes in version 2, none
+    /// in version 1.
     pub extra: &'a [u8],
+    /// Only reports of one epoch are counted together.
     pub epoch: u32,
 }
 
-/// The bytes of the report. The seed and the client number are never to be used again.
+impl Request<'_> {
+    /// The first fault, in the order of `star_client.h`.
+    fn fault(&self) -> Option<Fault> {
+        let version = self.version;
+        let (values, thresholds, bytes) = (self.values.len(), self.thresholds.len(), self.extra.len());
+        if thresholds == 0 || thresholds > version.max_layers() {
+            return Some(Fault::Layers { version, thresholds });
+        }
+        let in_range = 2..=version.max_threshold();
+        if let Some(index) = self.thresholds.iter().position(|k| !in_range.contains(k)) {
+            return Some(Fault::Threshold { version, index, threshold: self.thresholds[index] });
+        }
+        if values != thresholds {
+            return Some(Fault::Values { values, thresholds });
+        }
+        if let Some(index) = self.values.iter().position(|value| !(1..=MAX_VALUE).contains(&value.len())) {
+            return Some(Fault::Value { index, bytes: self.values[index].len() });
+        }
+        (bytes > version.max_extra()).then_some(Fault::Extra { version, bytes })
+    }
+
+    // For each value a byte that counts its bytes, and then these.
+    fn cells(&self) -> Result<Vec<u8>, Fault> {
+        match self.fault() {
+            Some(fault) => Err(fault),
+            None => Ok(self.values.iter().flat_map(|value| [&[value.len() as u8], *value].concat()).collect()),
+        }
+    }
+}
+
+/// The report behind its length, as it stands in a stream: records joined are one. The seed and the
+/// client number are never to be used again.
+pub fn record(request: &Request, seed: &[u8; SEED_BYTES], client: u32) -> Result<Vec<u8>, Fault> {
+    let mut record = vec![0; 4 + length(request)?];
+    let written = write(request, seed, client, &mut record[4..])?;
+    record[..4].copy_from_slice(&(written as u32).to_be_bytes());
+    Ok(record)
+}
+
+/// The bytes of the report alone. The seed and the client number are never to be used again.
 pub fn report(request: &Request, seed: &[u8; SEED_BYTES], client: u32) -> Result<Vec<u8>, Fault> {
-    let cells = cells_of(request.values)?;
-    let mut out = vec![0; length_with(request, &cells)?];
+    let mut report = vec![0; length(request)?];
+    write(request, seed, client, &mut report)?;
+    Ok(report)
+}
+
+/// How many bytes that report has; its record has four more.
+pub fn length(request: &Request) -> Result<usize, Fault> {
+    let cells = request.cells()?;
     let mut written = 0;
     // SAFETY: each pointer and length are those of one slice that is borrowed for the call, and
-    // `out` and `written` overlap nothing.
+    // `written` overlaps nothing.
+    let status = unsafe {
+        star_client_length(
+            request.version.number(),
+            cells.as_ptr(),
+            cells.len(),
+            request.thresholds.as_ptr(),
+            request.thresholds.len(),
+            request.extra.as_ptr(),
+            request.extra.len(),
+            &mut written,
+        )
+    };
+    done(status);
+    Ok(written)
+}
+
+// Writes the report into the room, which has its length, and says how long it is.
+fn write(request: &Request, seed: &[u8; SEED_BYTES], client: u32, out: &mut [u8]) -> Result<usize, Fault> {
+    let cells = request.cells()?;
+    let mut written = 0;
+    // SAFETY: as above; `out` overlaps nothing either.
     let status = unsafe {
         star_client_report(
-            number(request.version),
+            request.version.number(),
             cells.as_ptr(),
             cells.len(),
             request.thresholds.as_ptr(),
@@ -110,64 +263,13 @@ pub fn report(request: &Request, seed: &[u8; SEED_BYTES], client: u32) -> Result
             &mut written,
         )
     };
-    answered(status)?;
-    out.truncate(written);
-    Ok(out)
-}
-
-/// How many bytes that report has.
-pub fn length(request: &Request) -> Result<usize, Fault> {
-    length_with(request, &cells_of(request.values)?)
-}
-
-fn length_with(request: &Request, cells: &[u8]) -> Result<usize, Fault> {
-    let mut written = 0;
-    // SAFETY: as above.
-    let status = unsafe {
-        star_client_length(
-            number(request.version),
-            cells.as_ptr(),
-            cells.len(),
-            request.thresholds.as_ptr(),
-            request.thresholds.len(),
-            request.extra.as_ptr(),
-            request.extra.len(),
-            &mut written,
-        )
-    };
-    answered(status)?;
+    done(status);
     Ok(written)
 }
 
-// For each value a byte that counts its bytes, and then these.
-fn cells_of(values: &[&[u8]]) -> Result<Vec<u8>, Fault> {
-    let mut cells = Vec::new();
-    for value in values {
-        if value.len() > MAX_VALUE {
-            return Err(Fault::Values);
-        }
-        cells.push(value.len() as u8);
-        cells.extend_from_slice(value);
-    }
-    Ok(cells)
-}
-
-fn number(version: Version) -> u32 {
-    match version {
-        Version::One => 1,
-        Version::Two => 2,
-    }
-}
-
-// The other faults can't come: there are two versions, a seed has 32 bytes, and the room is asked for.
-fn answered(status: u32) -> Result<(), Fault> {
-    match status {
-        0 => Ok(()),
-        2 => Err(Fault::Thresholds),
-        3 => Err(Fault::Values),
-        4 => Err(Fault::Extra),
-        _ => unreachable!("status {status}"),
-    }
+// The arguments were looked at before, so that no other status comes.
+fn done(status: u32) {
+    assert_eq!(status, 0, "the status of a good request");
 }
 
 #[cfg(test)]
@@ -181,7 +283,8 @@ mod tests {
     // The report of the value `red` with the extra bytes `abc`, byte for byte.
     #[test]
     fn every_byte_of_a_report() {
-        let made = report(&request(Version::Two, &[b"red"], &[2], b"abc"), &[0; 32], 0).unwrap();
+        let asked = request(Version::Two, &[b"red"], &[2], b"abc");
+        let made = report(&asked, &[0; 32], 0).unwrap();
         let text: String = made.iter().map(|b| format!("{b:02x}")).collect();
         assert_eq!(
             text,
@@ -192,16 +295,19 @@ mod tests {
                 "4a6de87abea3",
             )
         );
-        assert_eq!(length(&request(Version::Two, &[b"red"], &[2], b"abc")), Ok(144));
+        assert_eq!(length(&asked), Ok(144));
+        assert_eq!(record(&asked, &[0; 32], 0).unwrap(), [&[0, 0, 0, 144], made.as_slice()].concat());
     }
 
     #[test]
-    fn faults() {
-        let fault = |r: Request| report(&r, &[0; 32], 0).unwrap_err();
-        assert_eq!(fault(request(Version::One, &[], &[], b"")), Fault::Thresholds);
-        assert_eq!(fault(request(Version::One, &[b"a"], &[513], b"")), Fault::Thresholds);
-        assert_eq!(fault(request(Version::Two, &[b""], &[2], b"")), Fault::Values);
-        assert_eq!(fault(request(Version::Two, &[&[1; 65]], &[2], b"")), Fault::Values);
-        assert_eq!(fault(request(Version::One, &[b"a"], &[2], b"x")), Fault::Extra);
+    fn faults_name_argument_and_limit() {
+        let text = |r: Request| record(&r, &[0; 32], 0).unwrap_err().to_string();
+        assert_eq!(text(request(Version::One, &[], &[], b"")), "thresholds has 0 numbers; version 1 has 1 to 8");
+        assert_eq!(text(request(Version::One, &[b"a"], &[513], b"")), "thresholds[0] is 513; in version 1 it is from 2 to 512");
+        assert_eq!(text(request(Version::Two, &[b"a"], &[2, 2], b"")), "values has 1 items; thresholds has 2, and each needs one");
+        assert_eq!(text(request(Version::Two, &[b""], &[2], b"")), "values[0] has 0 bytes; a value has 1 to 64");
+        assert_eq!(text(request(Version::Two, &[&[1; 65]], &[2], b"")), "values[0] has 65 bytes; a value has 1 to 64");
+        assert_eq!(text(request(Version::One, &[b"a"], &[2], b"x")), "extra has 1 bytes; version 1 has none");
+        assert_eq!(text(request(Version::Two, &[b"a"], &[2], &[0; 256])), "extra has 256 bytes; version 2 has at most 255");
     }
 }

@@ -1,0 +1,21 @@
+# CMake's find_package(star_client) over the proved archive: the target star_client::star_client. As `make install` places it, in
+# PREFIX/lib/cmake/star_client; or in a clone with -Dstar_client_DIR=.../bindings/c.
+if(NOT TARGET star_client::star_client)
+    get_filename_component(_star_client_prefix "${CMAKE_CURRENT_LIST_DIR}/../../.." ABSOLUTE)
+    if(EXISTS "${CMAKE_CURRENT_LIST_DIR}/star_client.h")
+        set(_star_client_include "${CMAKE_CURRENT_LIST_DIR}")
+        set(_star_client_archive "${CMAKE_CURRENT_LIST_DIR}/lib/x86_64-linux/libstar_client.a")
+    else()
+        set(_star_client_include "${_star_client_prefix}/include")
+        set(_star_client_archive "${_star_client_prefix}/lib/libstar_client.a")
+    endif()
+    if(NOT CMAKE_SYSTEM_NAME STREQUAL "Linux" OR NOT CMAKE_SYSTEM_PROCESSOR MATCHES "^(x86_64|amd64|AMD64)$")
+        set(star_client_FOUND FALSE)
+        set(star_client_NOT_FOUND_MESSAGE "the archive is for Linux on x86-64; elsewhere take bindings/portable, which has a CMakeLists.txt")
+        return()
+    endif()
+    add_library(star_client::star_client STATIC IMPORTED)
+    set_target_properties(star_client::star_client PROPERTIES
+        IMPORTED_LOCATION "${_star_client_archive}" INTERFACE_INCLUDE_DIRECTORIES "${_star_client_include}")
+endif()
+set(star_client_VERSION 1.0.0)

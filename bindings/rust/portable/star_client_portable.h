@@ -1,0 +1,39 @@
+/*
+ * The portable client: the calls of star_client.h for machines for which no archive is built, in plain C11. It is the proved module
+ * bindings/web/star_client.wasm, whose memory binaryen lowers to 32 bits and which wabt's wasm2c turns into C. Proved is the module;
+ * what was done to it since, and the compiler, are tested.
+ *
+ * A call needs a room of 128 KB, in which it works and which it clears before it returns. The calls of star_client.h take one of the
+ * thread that calls; the two below take the caller's, which no other call uses at the same time.
+ */
+#ifndef STAR_CLIENT_PORTABLE_H
+#define STAR_CLIENT_PORTABLE_H
+
+#include "star_client.h"
+
+#ifdef __cplusplus
+extern "C" {
+#endif
+
+#define STAR_CLIENT_ROOM_BYTES 131136
+
+/* Where a call works. It may hold anything before the first call. */
+struct star_client_room {
+    uint64_t words[STAR_CLIENT_ROOM_BYTES / 8];
+};
+
+/* star_client_report in the caller's room, with the same arguments and answers. */
+uint32_t star_client_report_in(struct star_client_room *room, uint32_t version, const uint8_t *cells, size_t cells_length,
+                               const uint16_t *thresholds, size_t thresholds_length, const uint8_t *extra, size_t extra_length,
+                               uint32_t epoch, const uint8_t *seed, size_t seed_length, uint32_t client, uint8_t *out, size_t out_length,
+                               size_t *written);
+
+/* star_client_length in the caller's room, with the same arguments and answers. */
+uint32_t star_client_length_in(struct star_client_room *room, uint32_t version, const uint8_t *cells, size_t cells_length,
+                               const uint16_t *thresholds, size_t thresholds_length, const uint8_t *extra, size_t extra_length,
+                               size_t *written);
+
+#ifdef __cplusplus
+}
+#endif
+#endif
