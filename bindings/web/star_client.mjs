@@ -91,6 +91,7 @@ class Client {
   async records({ rows, extras, progress, epoch, version, thresholds }) {
     const layers = layersOf({ version, thresholds }), others = extras?.[Symbol.iterator](), seeds = new Seeds();
     number("epoch", epoch);
+    if (typeof rows?.[Symbol.iterator] !== "function") throw new TypeError("rows can't be gone through; it has a list of values for each report");
     let all = new Uint8Array(1 << 16), length = 0, made = 0, told = 0, last = performance.now();
     for (const values of rows) {
       const { cells, extra } = rowOf(made, layers, values, others);
@@ -240,7 +241,7 @@ function rowOf(index, layers, values, extras) {
     if (next.done) fail(4, "extras has no item for this row");
     return { cells: cellsOf(layers, values), extra: extraOf(layers, next.value) };
   } catch (error) {
-    error.message = `row ${index}: ${error.message}`;
+    if (error instanceof ClientError || error instanceof TypeError) error.message = `row ${index}: ${error.message}`;
     throw error;
   }
 }

@@ -3,6 +3,17 @@
 : "${work:?a folder}"
 top=$PWD
 
+# told TEXT COMMAND..: the command fails, and says this
+told() {
+    local text=$1
+    shift
+    if "$@" >"$work/log" 2>&1 || ! grep -qF "$text" "$work/log"; then
+        echo "not told by $*: $text"
+        cat "$work/log"
+        exit 1
+    fi
+}
+
 # The wheel, by pip, with the library that is kept and with one that the compiler makes
 if python3 -m pip --version >/dev/null 2>&1; then
     for kind in kept compiled; do
@@ -11,6 +22,8 @@ if python3 -m pip --version >/dev/null 2>&1; then
         programs+=(-- env -C "$work" "PYTHONPATH=$work/python_$kind" PYTHONDONTWRITEBYTECODE=1 python3 "$top/tests/client/lines.py")
     done
     unset STAR_CLIENT_PORTABLE
+    told "so a C11 compiler has to make one" env -C bindings/python STAR_CLIENT_PORTABLE=1 CC=no-compiler PYTHONDONTWRITEBYTECODE=1 \
+        python3 -c 'import backend, sys; backend.build_wheel(sys.argv[1])' "$work"
 else
     echo "no pip here: the wheel isn't tested"
 fi
@@ -28,6 +41,8 @@ if command -v cargo >/dev/null; then
         programs+=(-- "$work/rust_$kind/debug/lines_rs")
     done
     unset STAR_CLIENT_PORTABLE
+    told "so a C11 compiler and ar have to make one" env STAR_CLIENT_PORTABLE=1 CC=no-compiler cargo build -q --offline --manifest-path "$work/rust/Cargo.toml" \
+        --target-dir "$work/rust_compiled"
     cargo test -q --offline --manifest-path "$work"/rust/star_client-*/Cargo.toml --target-dir "$work/rust_kept" >"$work/log" 2>&1 || { cat "$work/log"; exit 1; }
 else
     echo "no cargo here: the crate isn't tested"

@@ -135,7 +135,9 @@ class Client:
         A fault names its row, and then there is no stream.
         """
         layers = _Layers(version, thresholds)
-        epoch = _number("epoch", epoch, 32)
+        epoch, every = _number("epoch", epoch, 32), _whole("every", every)
+        if every < 1:
+            raise ClientError("every is %d; it is 1 or more" % every)
         out, made, count = ctypes.create_string_buffer(MAX_RECORD), [], 0
         others = None if extras is None else iter(extras)
         for values in rows:
