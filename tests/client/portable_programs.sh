@@ -10,7 +10,7 @@ portable_program() {
         echo "portable client, $name: not tested, $compiler${1:+ or $1} isn't here"
         return
     fi
-    "$compiler" -O2 -std=c11 -Wall -Wextra -Werror -Ibindings/c -c $portable/star_client_portable.c -o "$work/portable_$name.o"
+    "$compiler" -O2 -std=c11 -pedantic -Wall -Wextra -Werror -Ibindings/c -c $portable/star_client_portable.c -o "$work/portable_$name.o"
     "$compiler" -O2 -std=c11 -w -c $portable/module.c -o "$work/module_$name.o"
     "$compiler" -O2 -std=c11 -Wall -Wextra -Werror $options -Ibindings/c -o "$work/lines_$name" tests/client/lines.c "$work/portable_$name.o" "$work/module_$name.o"
     programs+=(-- "$@" "$work/lines_$name")

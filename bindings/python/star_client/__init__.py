@@ -13,7 +13,9 @@ from __future__ import annotations
 import ctypes
 import operator
 import os
+import platform
 import secrets
+import sys
 from collections.abc import Callable, Iterable, Sequence
 from typing import Any, Optional, Union
 
@@ -73,8 +75,10 @@ def library() -> str:
     """The path of the library that `Client()` takes: that of the wheel, or else, in a clone, the one of Linux on x86-64."""
     here = os.path.dirname(os.path.abspath(__file__))
     names = ["libstar_client.so", "libstar_client.dylib", "star_client.dll"]
-    clone = os.path.join(here, "..", "..", "c", "lib", "x86_64-linux", "libstar_client.so")
-    for path in [os.path.join(here, name) for name in names] + [os.path.normpath(clone)]:
+    places = [os.path.join(here, name) for name in names]
+    if sys.platform == "linux" and platform.machine() == "x86_64":
+        places.append(os.path.normpath(os.path.join(here, "..", "..", "c", "lib", "x86_64-linux", "libstar_client.so")))
+    for path in places:
         if os.path.exists(path):
             return path
     raise OSError("star_client's library isn't beside it: install the wheel (pip install bindings/python), or name a path: Client(path)")
