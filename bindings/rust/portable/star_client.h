@@ -2,9 +2,9 @@
  * The client of Nested STAR: it makes one report in the caller's buffer.
  *
  * Both functions are proved in crates/star_client_c (src/lib.rt): with good arguments and room they always give the report, whose
- * bytes are those that docs/FORMATS.md describes, and after a fault nothing is written. By construction they take no memory, keep no
- * state, call nothing of the system, and may be called by many threads at once. Measured and not proved: a call needs less than 20 KB of
- * stack.
+ * bytes are those that docs/FORMATS.md describes, and after a fault nothing is written. They take no memory, keep no state, call
+ * nothing of the system, and may be called by many threads at once: so they are made, and no clause says it. A call needs less than
+ * 20 KB of stack, which is measured and not proved.
  *
  * What the proof takes for granted, and the caller sees to:
  *  - no pointer is null, also where a length is 0;
