@@ -6,8 +6,8 @@ export const TRIMMED = "\u0009\u000a\u000b\u000c\u000d\u001c\u001d\u001e\u001f\u
 
 /**
  * The text without the characters of TRIMMED at its ends, in NFC, and where asked in lower case.
- * Lower case is Unicode's full mapping with its rule for the final sigma, and NFC again after it. It is the same everywhere for the
- * characters of one version of Unicode; one that a later version brings may be left as it is.
+ * Lower case is Unicode's full mapping with its rule for the final sigma, and NFC again after it. A character that a version of Unicode
+ * brings or changes may differ where another version is known.
  */
 export function normalized(text, { lower = false } = {}) {
   let from = 0, to = text.length;
