@@ -1,8 +1,8 @@
 #!/usr/bin/env bash
 # The program in dist/x86_64-linux: whether it is that of these crates, stripped, byte for byte.
-#     dist/build.sh           builds the program, proving first what isn't proved yet (tests/build.sh), and compares
-#     dist/build.sh --built   compares with the program that `rt ci` or a build left in crates/star_tool/out, and builds nothing
-#     dist/build.sh --write   builds, and puts it in the place of the one there, with SHA256SUMS and BUILT_FROM, the line of `rt version`
+#     dist/build.sh             builds the program, proving first what isn't proved yet (tests/build.sh), and compares
+#     dist/build.sh --built     compares with the program that `rt ci` or a build left in crates/star_tool/out, and builds nothing
+#     dist/build.sh --write     puts it in the place of the one there, with SHA256SUMS and BUILT_FROM, the line of `rt version`; with --built too
 # The kit's own LLVM strips it, so that no other tool's version shows in its bytes. It says on standard error how far it is.
 set -e
 cd "$(dirname "$0")/.."
@@ -11,7 +11,8 @@ kept=dist/x86_64-linux
 work=$(mktemp -d)
 trap 'rm -rf "$work"' EXIT
 
-if [ "$1" != --built ]; then
+words=" $* "
+if [[ $words != *" --built "* ]]; then
     bash tests/build.sh
 fi
 if [ ! -x $built ]; then
@@ -20,7 +21,7 @@ if [ ! -x $built ]; then
 fi
 kit=$(dirname "$(dirname "$(readlink -f "$(command -v rt)")")")
 (exec -a llvm-strip "$kit/toolchain/bin/clang" -o "$work/star_tool" $built)
-if [ "$1" = --write ]; then
+if [[ $words = *" --write "* ]]; then
     mkdir -p $kept
     cp "$work/star_tool" $kept/
     chmod 755 $kept/star_tool
