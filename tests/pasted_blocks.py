@@ -10,7 +10,8 @@ import subprocess
 import sys
 
 TOP = pathlib.Path(__file__).resolve().parent.parent
-PAIR = re.compile(r"^```sh\n(.*?)^```\n\n^```text\n(.*?)^```$", re.M | re.S)
+LINES = r"((?:(?!```).*\n)*)"
+PAIR = re.compile(rf"^```sh\n{LINES}```\n\n```text\n{LINES}```$", re.M)
 
 
 def main(documents):
