@@ -17,8 +17,8 @@ use Rattle.cert_audit.proofs.CertLaws.{reading-cert, reading-fault, reading_cert
 use Rattle.star_tool.specs.declared.status.Status.{Status}
 use Rattle.star_tool.specs.declared.status.Status.TheVariants.{TooMany, BadCert}
 use Rattle.star_tool.specs.declared.verbs.audit.TheConstants.{MAX_CERTS_BYTES}
-use Rattle.star_tool.specs.AuditText.{CertsIn, put_first, first_certs, certs_in}
-use Rattle.star_tool.specs.Verbs.Audit.{audit_refusal, HasBadCert, AreCerts}
+use Rattle.star_tool.specs.AuditText.{CertsIn, put_first, first_certs, certs_in, audit_text_of}
+use Rattle.star_tool.specs.Verbs.Audit.{audit_refusal, audit_output, HasBadCert, AreCerts}
 use Rattle.star_tool.proofs.AuditLemmas.{long_refused, fault_refused, certs_kept}
 use Rattle.star_tool.proofs.Certificates.{behind, some_bytes, first_step, no_bytes}
 
@@ -196,3 +196,9 @@ none_means bytes are = (
       }),
   (λ has. certs_kept bytes has.few (ap (λ (f : CertsIn). f.fault) (ap certs_in has.spelt ∙ read_whole has.certs has.in_range))),
 )
+
+-- ---- what is told
+
+-- the text of the certificates that the bytes spell
+pub certs_told : (certs : List Cert) (bytes : List ℕ) → All InRange certs → bytes ≡ spelt certs → audit_output bytes ≡ audit_text_of certs
+certs_told certs bytes range is = ap (λ (f : CertsIn). audit_text_of f.certs) (ap certs_in is ∙ read_whole certs range)

@@ -4,8 +4,13 @@ use Rattle.std.specs.Prelude.{codes}
 use Rattle.std.specs.List.{flat_map}
 use Rattle.std.specs.Fmt.{decimal}
 use Rattle.std.proofs.lemmas.Bool.{cases_lt}
-use Rattle.std.proofs.lemmas.List.{append-nil, get_or_default, same_from_push}
-use Rattle.star_io.specs.RecordLists.{stream_records}
+use Rattle.std.proofs.lemmas.List.{append-nil, get_or_default, length-map, same_from_push}
+use Rattle.std.proofs.lemmas.List.FromFn.{length-map-range_with_len}
+use Rattle.star_io.specs.RecordLists.{stream_records, stream_of, whole}
+use Rattle.star_io.specs.declared.record.TheConstants.{MAX_RECORDS}
+use Rattle.star_io.specs.declared.record.Record.TheVariants.{Whole}
+use Rattle.star_io.proofs.RecordListLaws.{are_stream, rest_none}
+use Rattle.nest_client.specs.Stream.{row_frame, table_frames}
 use Rattle.report_frame.specs.declared.version.Version.TheVariants.{One}
 use Rattle.report_frame.specs.Thresholds.{AreThresholds}
 use Rattle.layer_walk.specs.declared.revealed.OpenedGroup.{OpenedGroup}
@@ -20,17 +25,19 @@ use Rattle.client_table.proofs.Places.{some-outcome}
 use Rattle.table_law.specs.Prefixes.{Values, prefixes}
 use Rattle.table_law.specs.Clear.{is_clear}
 use Rattle.table_law.specs.Reveals.{IsValue, IsRowOf, IsTableOf, RevealsOnly}
-use Rattle.table_law.proofs.WholeTable.{stream_reveals}
+use Rattle.table_law.proofs.WholeTable.{frames_short, stream_reveals}
 use Rattle.table_law.proofs.ClearTest.{clear_decides}
 use Rattle.command_words.specs.declared.command.Command.TheVariants.{Expect}
 use Rattle.star_tool.specs.ExpectText.{expect_text_of}
 use Rattle.star_tool.specs.Run.{IsOutput, Reason}
 use Rattle.star_tool.specs.Status.{table_status}
 use Rattle.star_tool.specs.Seen.{Seen}
+use Rattle.star_tool.specs.StreamInput.{stream_refusal}
 use Rattle.star_tool.specs.Verbs.Expect.{expect_output, SaysClear}
 use Rattle.star_tool.specs.Verbs.Make.{make_refusal, make_output, IsTableText}
 use Rattle.star_tool.specs.declared.verbs.make.TheConstants.{MAX_TABLE_BYTES}
 use Rattle.star_tool.proofs.MakeLemmas.{IsWhole, no_table, table_read, none_means}
+use Rattle.star_tool.proofs.StreamLemmas.{stream_good}
 
 -- the text of what was found of a table is the output
 pub expect_made : (epoch : ℕ) (thresholds seed : List ℕ) (input coins : Seen) (taken text : List ℕ)
@@ -126,3 +133,15 @@ foretold_reveal epoch thresholds seed bytes drawn low t none says =
     let front : List ℕ = flat_map open_line revealed.groups ++ level_lines revealed.levels in
     ap (λ (rs : List Refusal). front ++ flat_map refusal_line rs ++ flat_map aux_line revealed.aux ++ last_line revealed) refused
     ∙ ap (λ l. l ++ flat_map aux_line revealed.aux ++ last_line revealed) (append-nil front)
+
+-- the stream of a table has a record for each of its rows, which are few
+pub stream_kept : (epoch : ℕ) (thresholds seed bytes drawn : List ℕ) → epoch < 2 ^ 32 → AreThresholds One thresholds → make_refusal One thresholds bytes ≡ None
+    → stream_refusal (make_output epoch One thresholds (Some seed) bytes drawn) ≡ None
+stream_kept epoch thresholds seed bytes drawn low t none =
+    let rows = table_of bytes in
+    let good = table_text thresholds bytes none in
+    let frames = table_frames rows thresholds epoch seed in
+    let short = frames_short epoch seed thresholds rows low t (rows_of_table thresholds rows good) in
+    let few : length (whole frames) ≤ MAX_RECORDS =
+    omega (arith, good.few, length-map frames (λ (body : List ℕ). Whole body), length-map-range_with_len (row_frame rows thresholds epoch seed) 0 (length rows)) in
+    stream_good (stream_of frames) (rest_none MAX_RECORDS (whole frames) (stream_of frames) (are_stream frames short) few)

@@ -1,46 +1,53 @@
 // A source over a file.
-ghost use Rattle.std.specs.Prelude.{◌≡◌, None, option_and_then};
+ghost use Rattle.std.specs.Prelude.{◌≡◌, true, false, None, is_some, IfOk};
 ghost use Rattle.std.specs.Io.{ReadsAtMost};
 ghost use Rattle.std.specs.Io.KnownBytes.{ReadConsumes};
 ghost use Rattle.star_io.specs.Faults.{CountsFault, HasCause};
+ghost use Rattle.star_tool.specs.FileState.{left_of};
 
+use crate::opener::Opener;
 use star_io::{Failed, Source, StdSource};
-use std::fs;
 use std::marker::Model;
-use std::rt::Files;
 
-/// A source over a file that is opened at the first take, seen as its path, the bytes left and its
-/// count of faults. It tells the bytes that the open file tells, and none before it is open.
+/// A source over a file that is opened at the first take, seen as its path, whether it is open, the
+/// bytes left and its count of faults. It tells the bytes that the opener tells of the path, and
+/// once the file is open those that the file tells.
 ///
 /// It counts each failed opening, after which the next take tries again, and each failed read.
 #[derive(Drop)]
-pub struct FileSource<'a, R: Files> {
-    files: &'a R,
-    path: &'static str,
-    file: Option<StdSource<R::File>>,
+pub struct FileSource<'a, O: Opener> {
+    opener: O,
+    path: &'a str,
+    file: Option<StdSource<O::File>>,
     faults: u64,
 }
 
-impl<'a, R: Files> Model for FileSource<'a, R> {
-    ghost use Rattle.std.specs.Prelude.{option_and_then};
-    ghost use Rattle.star_tool.specs.FileState.{FileState};
+impl<'a, O: Opener> Model for FileSource<'a, O> {
+    ghost use Rattle.std.specs.Prelude.{is_some};
+    ghost use Rattle.star_tool.specs.FileState.{FileState, left_of};
 
     ghost Value = { FileState };
 
     ghost view = { λ s. record {
       path = s.path.now;
-      left = option_and_then (λ file. file.tells) s.file;
+      is_open = is_some s.file;
+      left = left_of (O.bytes_at s.opener s.path.now) s.file;
       faults = s.faults;
     } };
 }
 
-impl<'a, R: Files> FileSource<'a, R> {
+impl<'a, O: Opener> FileSource<'a, O> {
     /// A source over the file at this path, which isn't touched yet.
-    pub fn new(files: &'a R, path: &'static str) -> FileSource<'a, R>
-        ensures { result ≡ record { path = path.now; left = None; faults = 0 } }
+    pub fn new(opener: O, path: &'a str) -> FileSource<'a, O>
+        ensures { result ≡ record {
+          path = path.now;
+          is_open = false;
+          left = O.bytes_at opener path.now;
+          faults = 0;
+        } }
     {
         FileSource {
-            files,
+            opener,
             path,
             file: None,
             faults: 0,
@@ -48,7 +55,7 @@ impl<'a, R: Files> FileSource<'a, R> {
     }
 }
 
-impl<'a, R: Files> Source for FileSource<'a, R> {
+impl<'a, O: Opener> Source for FileSource<'a, O> {
     ghost left = { λ s. s.left };
 
     ghost faults = { λ s. s.faults };
@@ -58,9 +65,10 @@ impl<'a, R: Files> Source for FileSource<'a, R> {
         ensures bytes { ReadConsumes self.old.left self.new.left result into.new }
         ensures cause { HasCause self.old.faults self.new.faults result }
         ensures counts { CountsFault self.old.faults self.new.faults result }
+        ensures opened { IfOk result (λ _. self.new.is_open ≡ true) }
         ensures path { self.new.path ≡ self.old.path }
     {
-        let result = read_file(self.files, self.path, &mut self.file, into);
+        let result = read_file(&self.opener, self.path, &mut self.file, into);
         if result.is_err() {
             self.faults = self.faults.saturating_add(1);
         }
@@ -69,26 +77,22 @@ impl<'a, R: Files> Source for FileSource<'a, R> {
 }
 
 // Reads the file, which is opened first where it isn't open.
-fn read_file<R: Files>(
-    files: &R,
+fn read_file<O: Opener>(
+    opener: &O,
     path: &str,
-    file: &mut Option<StdSource<R::File>>,
+    file: &mut Option<StdSource<O::File>>,
     into: &mut [u8],
 ) -> Result<usize, Failed>
     ensures bound { ReadsAtMost result into.new }
-    ensures bytes { ReadConsumes (option_and_then (λ f. f.tells) file.old)
-        (option_and_then (λ f. f.tells) file.new) result into.new }
+    ensures bytes { ReadConsumes (left_of (O.bytes_at opener.now path.now) file.old)
+        (left_of (O.bytes_at opener.now path.now) file.new) result into.new }
+    ensures opened { IfOk result (λ _. is_some file.new ≡ true) }
 {
-    if let Some(opened) = file {
-        return opened.take(into);
-    }
-    match fs::open(files, path) {
-        Ok(opened) => {
-            let mut opened = StdSource::new(opened);
-            let result = opened.take(into);
-            *file = Some(opened);
-            result
-        }
-        Err(_) => Err(Failed),
-    }
+    let mut opened = match file.take() {
+        Some(opened) => opened,
+        None => StdSource::new(opener.open(path)?),
+    };
+    let result = opened.take(into);
+    *file = Some(opened);
+    result
 }

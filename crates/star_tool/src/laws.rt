@@ -1,16 +1,18 @@
 //! Laws of the commands: what a refusal of their input means, and what they tell. Each
 //! function does nothing: its clauses are facts about the definitions that the contract of `run`
 //! cites.
-ghost use Rattle.std.specs.Prelude.{◌≡◌, ◌↔◌, ℕ, List, Option, None, Some, Ok, Err, ◌<◌, ◌^◌, ◌++◌, [], length, map, All, true};
+ghost use Rattle.std.specs.Prelude.{◌≡◌, ◌↔◌, ℕ, List, Option, None, Some, Ok, Err, ◌<◌, ◌^◌, ◌++◌, [], length, map, All, true, unwrap_or, codes};
 ghost use Rattle.std.specs.List.{AllZip, flat_map};
 ghost use Rattle.std.specs.List.Sorted.{IsPermutation};
 ghost use Rattle.star_io.specs.Bytes.{AreBytes};
-ghost use Rattle.star_io.specs.RecordLists.{HasMoreThan, stream_records};
+ghost use Rattle.star_io.specs.RecordLists.{HasMoreThan, stream_records, stream_of};
 ghost use Rattle.star_io.specs.declared.record.TheConstants.{MAX_RECORDS};
 ghost use Rattle.report_frame.specs.declared.version.Version.{Version};
-ghost use Rattle.report_frame.specs.declared.version.Version.TheVariants.{One};
+ghost use Rattle.report_frame.specs.declared.version.Version.TheVariants.{One, Two};
 ghost use Rattle.report_frame.specs.Thresholds.{AreThresholds};
 ghost use Rattle.nest_client.specs.Generator.{drawn_records};
+ghost use Rattle.nest_client.specs.Stream.{table_frames, table2_frames};
+ghost use Rattle.client_table.specs.Table.{table_of, table2_of};
 ghost use Rattle.star_lists.specs.Elements.{EquallyOften};
 ghost use Rattle.layer_walk.specs.Laws.{TellAlike};
 ghost use Rattle.layer_walk.specs.Reveal.{outer_rows, reveal_of};
@@ -29,10 +31,14 @@ ghost use Rattle.book_merge.specs.declared.fault.MergeFault.{MergeFault};
 ghost use Rattle.command_words.specs.declared.command.Command.{Command};
 ghost use Rattle.command_words.specs.declared.command.Command.TheVariants.{Check, Reveal, Make, Gen, SelfTest, Expect, Book as BookCommand, Merge, OpenBook, Certify, Audit, Epochs};
 ghost use Rattle.star_tool.specs.Commands.{refusal_of, output_of};
-ghost use Rattle.star_tool.specs.Status.{fault_status};
+ghost use Rattle.star_tool.specs.Status.{fault_status, line_of};
+ghost use Rattle.star_tool.specs.AuditText.{audit_text_of};
+ghost use Rattle.star_tool.specs.CheckText.{check_text_of};
 ghost use Rattle.star_tool.specs.ExpectText.{expect_line};
+ghost use Rattle.star_tool.specs.SelfTestText.{ok_lines, ok_count_line};
 ghost use Rattle.star_tool.specs.Verbs.Expect.{SaysClear};
-ghost use Rattle.cert_audit.specs.Certificate.{cert_spelling};
+ghost use Rattle.cert_audit.specs.Certificate.{InRange, cert_spelling};
+ghost use Rattle.cert_audit.specs.declared.cert.Cert.{Cert};
 ghost use Rattle.cert_audit.specs.declared.kind.CertKind.{CertKind};
 ghost use Rattle.open_cert.specs.Certs.{IsCertOf, certs_list};
 ghost use Rattle.star_tool.specs.Verbs.Audit.{HasBadCert, AreCerts};
@@ -42,13 +48,16 @@ ghost use Rattle.star_tool.specs.declared.status.Status.{Status};
 ghost use Rattle.star_tool.specs.declared.verbs.audit.TheConstants.{MAX_CERTS_BYTES};
 ghost use Rattle.star_tool.specs.declared.verbs.make.TheConstants.{MAX_TABLE_BYTES};
 
-/// `check` refuses exactly the streams with a byte behind the last record that is read.
+/// `check` refuses exactly the streams with a byte behind the last record that is read. Its output
+/// is the text of the records.
 #[tactic(auto, using(crate::proofs::StreamLemmas::too_many_means, crate::proofs::StreamLemmas::too_many_only))]
-pub fn check_refuses()
+pub fn check_tells()
     ensures too_many { (bytes : List ℕ) → AreBytes bytes →
         (refusal_of Check bytes ≡ Some Status.TooMany) ↔ HasMoreThan MAX_RECORDS bytes }
     ensures only { (bytes : List ℕ) (status : Status) →
         refusal_of Check bytes ≡ Some status → status ≡ Status.TooMany }
+    ensures text { (bytes seed : List ℕ) →
+        output_of Check bytes seed ≡ check_text_of (stream_records bytes) }
 {}
 
 /// `reveal` refuses exactly the streams that `check` refuses. Its output is the text of what the
@@ -75,9 +84,11 @@ pub fn gen_tells()
         ≡ summary_of (reveal_of 1 (drawn_records number reports liars)) }
 {}
 
-/// `make` refuses exactly what is too much for a table, and else what has a bad place.
+/// `make` refuses exactly what is too much for a table, and else what has a bad place. Its output
+/// is the stream of the reports of the table's rows, by the seed that is given or else by the one
+/// that was drawn.
 #[tactic(auto, using(crate::proofs::MakeLemmas::too_many_means, crate::proofs::MakeLemmas::bad_means, crate::proofs::MakeLemmas::none_means))]
-pub fn make_refuses()
+pub fn make_tells()
     ensures too_many { (epoch : ℕ) (version : Version) (thresholds bytes : List ℕ)
         (given : Option (List ℕ)) →
         (refusal_of (Make epoch version thresholds given) bytes ≡ Some Status.TooMany)
@@ -90,21 +101,33 @@ pub fn make_refuses()
         (given : Option (List ℕ)) →
         (refusal_of (Make epoch version thresholds given) bytes ≡ None)
         ↔ IsTableText version thresholds bytes }
+    ensures stream { (epoch : ℕ) (thresholds bytes drawn : List ℕ) (given : Option (List ℕ)) →
+        output_of (Make epoch One thresholds given) bytes drawn
+        ≡ stream_of (table_frames (table_of bytes) thresholds epoch (unwrap_or given drawn)) }
+    ensures stream2 { (epoch : ℕ) (thresholds bytes drawn : List ℕ) (given : Option (List ℕ)) →
+        output_of (Make epoch Two thresholds given) bytes drawn
+        ≡ stream_of (table2_frames (table2_of (length thresholds) bytes) thresholds epoch
+        (unwrap_or given drawn)) }
 {}
 
-/// `selftest` refuses exactly where a vector differs, and names the first one.
-pub fn self_test_refuses()
+/// `selftest` refuses exactly where a vector differs, and names the first one. Its output is a line
+/// for each vector, and their count.
+pub fn self_test_tells()
     ensures bad { (number : ℕ) (got wanted bytes : List ℕ) →
         first_differing vectors ≡ Some (record { number = number; got = got; wanted = wanted }) →
         refusal_of SelfTest bytes ≡ Some (Status.BadVector number got wanted) }
     ensures good { (bytes : List ℕ) →
         first_differing vectors ≡ None → refusal_of SelfTest bytes ≡ None }
+    ensures text { (bytes seed : List ℕ) →
+        output_of SelfTest bytes seed
+        ≡ ok_lines (length vectors) ++ ok_count_line (length vectors) }
 {}
 
 /// `expect` refuses exactly what `make` refuses in version 1. Where its output says that the table
 /// is clear, the stream of `make` with the same options and table reveals what it foretells: the
 /// `open` lines of `expect` (`lines`) are those of `reveal` (`reveal`), nothing is refused, and no
-/// group is without a line or has a bad value (`alone`).
+/// group is without a line or has a bad value (`alone`). `reveal` never refuses the stream that
+/// `make` makes of a table that isn't refused (`kept`).
 pub fn expect_foretells()
     ensures refused { (epoch : ℕ) (thresholds seed bytes : List ℕ) →
         refusal_of (Expect epoch thresholds seed) bytes
@@ -133,6 +156,11 @@ pub fn expect_foretells()
         let revealed = reveal_of epoch (stream_records
         (output_of (Make epoch One thresholds (Some seed)) bytes drawn)) in
         (revealed.refusals ≡ []) × All IsClean revealed.levels }
+    ensures kept { (epoch workers : ℕ) (thresholds seed bytes drawn : List ℕ) → epoch < 2 ^ 32 →
+        AreThresholds One thresholds →
+        refusal_of (Expect epoch thresholds seed) bytes ≡ None →
+        let stream = output_of (Make epoch One thresholds (Some seed)) bytes drawn in
+        refusal_of (Reveal epoch workers) stream ≡ None }
 {}
 
 /// `book` refuses exactly the streams that `check` refuses. Its output is the book of the records.
@@ -227,9 +255,10 @@ pub fn certify_tells()
 {}
 
 /// `audit` refuses exactly too many bytes, and else those that go on with something else behind
-/// some whole certificates.
+/// some whole certificates. Of certificates one after the other its output has a line for the
+/// verdict of each.
 #[tactic(auto, using(crate::proofs::AuditLaws::too_many_means, crate::proofs::AuditLaws::none_means))]
-pub fn audit_refuses()
+pub fn audit_tells()
     ensures too_many { (bytes : List ℕ) →
         (refusal_of Audit bytes ≡ Some Status.TooMany) ↔ (MAX_CERTS_BYTES < length bytes) }
     ensures bad { (bytes : List ℕ) (cert : ℕ) (kind : CertKind) (at : ℕ) → AreBytes bytes →
@@ -237,6 +266,8 @@ pub fn audit_refuses()
         ↔ HasBadCert bytes cert kind at }
     ensures good { (bytes : List ℕ) → AreBytes bytes →
         (refusal_of Audit bytes ≡ None) ↔ AreCerts bytes }
+    ensures text { (certs : List Cert) (bytes seed : List ℕ) → All InRange certs →
+        bytes ≡ flat_map cert_spelling certs → output_of Audit bytes seed ≡ audit_text_of certs }
 {}
 
 /// `epochs` refuses exactly the streams that `check` refuses. Its output is the text of what the
@@ -250,6 +281,16 @@ pub fn epochs_tell()
     ensures text { (workers : ℕ) (bytes seed : List ℕ) →
         output_of (Epochs workers) bytes seed
         ≡ epochs_text_of (epochs_told (stream_records bytes)) }
+{}
+
+/// The line of a faulty command line, in plain text.
+pub fn usage_line()
+    ensures { line_of Status.Usage ≡ codes "usage: star_tool check | reveal --epoch E [--workers W]"
+        ++ codes " | make --epoch E --thresholds K,.. [--seed HEX] [--version V]"
+        ++ codes " | gen --number N --reports R --liars L [--workers W] | selftest"
+        ++ codes " | expect --epoch E --thresholds K,.. --seed HEX | book --epoch E"
+        ++ codes " | merge --epoch E | openbook --epoch E [--workers W] | certify --epoch E"
+        ++ codes " | audit | epochs [--workers W]\n" }
 {}
 
 /// The limits in plain numbers.

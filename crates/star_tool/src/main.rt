@@ -10,6 +10,7 @@ mod expect_text;
 mod feed;
 mod file_source;
 pub mod laws;
+mod opener;
 mod output;
 mod run;
 mod self_test_text;
@@ -23,6 +24,7 @@ pub use command_words::{Command, Thresholds, Words, WordsError, words_of};
 pub use epochs_text::epochs_text;
 pub use expect_text::expect_text;
 pub use file_source::FileSource;
+pub use opener::{HostFiles, Opener};
 use recovery_pool::NoGate;
 pub use run::run;
 pub use self_test_text::self_test_text;
@@ -71,7 +73,7 @@ fn run_over<R: Threads + Sync + Files, I: Read + Drop, O: Write + Drop>(
         Err(_) => return Status::NoMemory,
     };
     let mut input = StdSource::new(buffered);
-    let mut coins = FileSource::new(rt, COINS);
+    let mut coins = FileSource::new(HostFiles::new(rt), COINS);
     let mut out = StdSink::new(stdout);
     run(rt, alloc, words, &mut input, &mut coins, &NoGate, &mut out)
 }

@@ -1,19 +1,78 @@
-use crate::{FileSource, Status, status_line, status_number};
+ghost use Rattle.std.specs.Prelude.{Some};
+
+use crate::{FileSource, HostFiles, Opener, Status, status_line, status_number};
 use book_file::BookKind;
 use cert_audit::CertKind;
 use star_io::{Failed, Source};
+use std::sync::atomic::{AtomicU64, Ordering};
 use std::test::*;
 
-#[test]
-fn a_file_is_opened_once_and_a_folder_has_no_bytes(rt: HostRuntime) -> Result<(), Fail> {
-    let mut into = [0; 4];
-    assert_eq!(rt; FileSource::new(&rt, "/").take(&mut into), Err(Failed));
+// The program's own file.
+const PROGRAM: &str = "/proc/self/exe";
 
-    let mut program = FileSource::new(&rt, "/proc/self/exe");
-    assert_eq!(rt; program.take(&mut into), Ok(4));
-    assert_eq!(rt; into, *b"\x7fELF");
-    assert_eq!(rt; program.take(&mut into), Ok(4));
-    assert_ne!(rt; into, *b"\x7fELF", "the bytes that follow");
+#[test]
+fn takes_of_a_file_are_its_bytes_in_order(rt: HostRuntime) -> Result<(), Fail> {
+    let mut front = [0; 32];
+    let mut program = FileSource::new(HostFiles::new(&rt), PROGRAM);
+    assert_eq!(rt; program.take(&mut front), Ok(32));
+    assert!(rt; front.starts_with(b"\x7fELF"));
+
+    let mut program = FileSource::new(HostFiles::new(&rt), PROGRAM);
+    let mut piece = [0; 4];
+    for wanted in front.chunks(4) {
+        assert_eq!(rt; program.take(&mut piece), Ok(4));
+        assert_eq!(rt; piece.as_slice(), wanted);
+    }
+    Ok(())
+}
+
+#[test]
+fn a_file_that_is_not_there_and_a_folder_are_faults(rt: HostRuntime) -> Result<(), Fail> {
+    for path in ["/proc/self/none", "/"] {
+        let mut none = FileSource::new(HostFiles::new(&rt), path);
+        assert_eq!(rt; none.take(&mut [0; 4]), Err(Failed));
+        assert_eq!(rt;
+            none.take(&mut [0; 4]),
+            Err(Failed),
+            "the next take tries again"
+        );
+    }
+    Ok(())
+}
+
+// Bytes at each path, of which the first opening fails.
+#[derive(Drop)]
+struct AtSecond<'a> {
+    bytes: &'a [u8],
+    openings: AtomicU64,
+}
+
+impl<'a> Opener for AtSecond<'a> {
+    type File = &'a [u8];
+
+    ghost bytes_at = { λ s _. Some s.bytes.now };
+
+    fn open(&self, _path: &str) -> Result<&'a [u8], Failed> {
+        if self.openings.fetch_add(1, Ordering::SeqCst) == 0 {
+            return Err(Failed);
+        }
+        Ok(self.bytes)
+    }
+}
+
+#[test]
+fn an_opening_that_failed_is_tried_again(rt: HostRuntime) -> Result<(), Fail> {
+    let opener = AtSecond {
+        bytes: b"abcdef",
+        openings: AtomicU64::new(0),
+    };
+    let mut file = FileSource::new(opener, "late");
+    let mut into = [0; 4];
+    assert_eq!(rt; file.take(&mut into), Err(Failed));
+    assert_eq!(rt; file.take(&mut into), Ok(4));
+    assert_eq!(rt; into, *b"abcd");
+    assert_eq!(rt; file.take(&mut into), Ok(2));
+    assert_eq!(rt; into, *b"efcd");
     Ok(())
 }
 

@@ -256,7 +256,7 @@ table_reveals e seed ks table low t is clear = reveals_prefixes e seed ks table 
 -- ---- the stream of a table
 
 -- each frame is short enough for a record
-frames_short : (e : ℕ) (seed ks : List ℕ) (table : List Values) → e < 2 ^ 32 → AreThresholds One ks → IsTableOf ks table → AreShort (table_frames table ks e seed)
+pub frames_short : (e : ℕ) (seed ks : List ℕ) (table : List Values) → e < 2 ^ 32 → AreThresholds One ks → IsTableOf ks table → AreShort (table_frames table ks e seed)
 frames_short e seed ks table low t is k d lt =
     let n : ℕ = length table in
     let within : k < n = omega (arith, lt, length-map-range_with_len (row_frame table ks e seed) 0 n) in

@@ -1,5 +1,5 @@
 use Rattle.std.proofs.Common.{refl}
-use Rattle.star_tool.proofs.ExpectLemmas.{foretold, foretold_text, foretold_reveal}
+use Rattle.star_tool.proofs.ExpectLemmas.{foretold, foretold_text, foretold_reveal, stream_kept}
 use Rattle.star_tool.proofs.laws.expect_foretells.Goals as goal
 
 pub returns-clause-lines : goal.returns-clause-lines
@@ -12,3 +12,6 @@ returns-clause-reveal c = λ epoch workers thresholds seed bytes drawn other low
 pub returns-clause-alone : goal.returns-clause-alone
 returns-clause-alone c = λ epoch thresholds seed bytes drawn low t none says.
     let is = foretold epoch thresholds seed bytes drawn low t none says in (is.refusals, is.clean)
+
+pub returns-clause-kept : goal.returns-clause-kept
+returns-clause-kept c = λ epoch workers thresholds seed bytes drawn low t none. stream_kept epoch thresholds seed bytes drawn low t none

@@ -1,5 +1,5 @@
 use crate::trial_streams::{RED, source, words_in};
-use crate::{FileSource, Status, run};
+use crate::{FileSource, HostFiles, Status, run};
 use recovery_pool::NoGate;
 use star_io::{FailAt, MemorySink, MemorySource};
 use std::alloc::Global;
@@ -94,7 +94,7 @@ fn coins_of_a_file_are_taken_as_they_are_needed(rt: HostRuntime) -> Result<(), F
         ("/dev/null/none", Status::ReadFault, &[]),
     ] {
         let mut trial = Trial::new(alloc, b"red\n", 0)?;
-        let mut coins = FileSource::new(&rt, path);
+        let mut coins = FileSource::new(HostFiles::new(&rt), path);
         let input = &mut trial.input;
         let out = &mut trial.out;
         assert_eq!(rt;

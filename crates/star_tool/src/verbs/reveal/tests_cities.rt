@@ -1,7 +1,7 @@
 // Two layers, and the workers that open their groups.
 use crate::tests_faults::{Case, bears_failing_takes};
 use crate::trial_streams::{cities, made_stream, told_by};
-use recovery_pool::Gate;
+use recovery_pool::{Gate, NoGate};
 use std::sync::atomic::{AtomicU64, Ordering};
 use std::test::*;
 use std::thread;
@@ -79,24 +79,29 @@ impl Gate for LastOfAll {
     }
 }
 
+// The text that `reveal` tells, as the section of its epoch.
+const EPOCHS_TOLD: &[u8] =
+    b"epoch 7\nopen DE~20 points=30 agree=30 members=30\nopen DE~20/Berlin~10 points=22 agree=22 members=22\nopen FR~20 points=24 agree=24 members=24\nopen FR~20/Aix%20en%20Provence~10 points=12 agree=12 members=12\nopen FR~20/Paris~10 points=12 agree=12 members=12\nlevel 0 opened=2 few=1 noline=0 badvalue=0\nlevel 1 opened=3 few=1 noline=0 badvalue=0\nrecords=60 rows=60 refused=0\nrecords=60 epochs=1 refused=0\n";
+
 #[test]
 fn two_workers_open_groups_beside_each_other(rt: HostRuntime) -> Result<(), Fail> {
     let alloc = rt.alloc();
     let stream = made_stream(&rt, alloc, OPTIONS, &cities(alloc)?)?;
-
-    let meeting = Meeting {
-        come: AtomicU64::new(0),
-        let_go: AtomicU64::new(0),
-    };
-    let told = told_by(
-        &rt,
-        alloc,
-        "reveal --epoch 7 --workers 2",
-        &stream,
-        &meeting,
-    )?;
-    assert_eq!(rt; told.as_slice(), TOLD);
-    assert_eq!(rt; meeting.let_go.load(Ordering::SeqCst), 2);
+    let book = told_by(&rt, alloc, "book --epoch 7", &stream, &NoGate)?;
+    let cases: [(&str, &[u8], &[u8]); 3] = [
+        ("reveal --epoch 7 --workers 2", &stream, TOLD),
+        ("openbook --epoch 7 --workers 2", &book, TOLD),
+        ("epochs --workers 2", &stream, EPOCHS_TOLD),
+    ];
+    for (line, input, wanted) in cases {
+        let meeting = Meeting {
+            come: AtomicU64::new(0),
+            let_go: AtomicU64::new(0),
+        };
+        let told = told_by(&rt, alloc, line, input, &meeting)?;
+        assert_eq!(rt; told.as_slice(), wanted);
+        assert_eq!(rt; meeting.let_go.load(Ordering::SeqCst), 2, "{line}");
+    }
 
     let last = LastOfAll {
         passed: AtomicU64::new(0),
