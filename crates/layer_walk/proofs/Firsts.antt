@@ -1,5 +1,6 @@
 -- The rows of level 0 and the refusals of the other records.
 use Rattle.std.proofs.Common.{◌≡◌, ℕ, suc, ◌+◌, ◌<◌, ◌≤◌, List, [], ◌∷◌, ◌++◌, Option, Result, Ok, Err, length, take, map, refl, sym, ap, ◌∙◌, subst, arith, length-append, append-nil}
+use Rattle.std.specs.Prelude.{◌^◌}
 use Rattle.std.specs.List.{AllByRecursion, cons_option}
 use Rattle.std.specs.List.Sorted.{IsStrictlySortedBy}
 use Rattle.std.specs.Ordering.{nat_cmp}
@@ -8,7 +9,6 @@ use Rattle.std.specs.declared.cmp.Ordering.TheVariants.{Less}
 use Rattle.std.proofs.lemmas.List.{length-map, map-append}
 use Rattle.std.proofs.lemmas.List.Elements.{All-from_recursion, All-map}
 use Rattle.star_io.specs.declared.record.Record.{Record}
-use Rattle.star_io.specs.declared.record.TheConstants.{MAX_RECORDS}
 use Rattle.report_frame.specs.Frame.{Fields}
 use Rattle.star_lists.specs.Numbered.{numbered_from}
 use Rattle.star_lists.proofs.Elements.{filter_map_fewer}
@@ -145,7 +145,7 @@ views_rise : (e : ℕ) (records : List Record) → IsStrictlySortedBy row_cmp (m
 unfolding outer_rows
 views_rise e records = rising e 0 records
 
-pub zero_good : (e : ℕ) (records : List Record) → length records ≤ MAX_RECORDS → IsLevel (level_zero_of e records)
+pub zero_good : (e : ℕ) (records : List Record) → length records < 2 ^ 32 → IsLevel (level_zero_of e records)
 zero_good e records small = record {
   parents = All-map (λ (r : RowView). r.parent < 1) outermost (outer_rows e records) (λ k d lt. omega arith);
   depth = All-from_recursion (λ (p : Parent). length p.path ≡ 0) (no_parent ∷ []) (refl, tt);

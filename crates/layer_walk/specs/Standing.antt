@@ -1,7 +1,6 @@
 -- The list of records that a walk stands for, and the level with which it begins.
-use Rattle.std.specs.Prelude.{◌≡◌, ◌≤◌, ℕ, List, [], ◌∷◌, length, map}
+use Rattle.std.specs.Prelude.{◌≡◌, ◌<◌, ◌^◌, ℕ, List, [], ◌∷◌, length, map}
 use Rattle.star_io.specs.declared.record.Record.{Record}
-use Rattle.star_io.specs.declared.record.TheConstants.{MAX_RECORDS}
 use Rattle.tag_groups.specs.RowView.{RowView}
 use Rattle.layer_walk.specs.declared.level.Level.{Level}
 use Rattle.layer_walk.specs.Seen.{WalkView}
@@ -22,8 +21,8 @@ pub record StandsFor (walk : WalkView) (records : List Record) : Type 0 where
 abbrev pub level_zero_of : ℕ → List Record → Level
 level_zero_of e records = record { number = 0; epoch = e; parents = no_parent ∷ []; rows = map outermost (outer_rows e records) }
 
--- A walk stands for some records, and for no more than a stream may have.
+-- A walk stands for some records, and for no more than its number counts.
 pub record IsWalk (walk : WalkView) : Type 0 where
   pub records : List Record
   pub stands : StandsFor walk records
-  pub few : walk.taken ≤ MAX_RECORDS
+  pub few : walk.taken < 2 ^ 32

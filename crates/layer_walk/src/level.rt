@@ -1,6 +1,5 @@
 // A level, and the level after it.
-ghost use Rattle.std.specs.Prelude.{◌≡◌, ◌≤◌, ◌∷◌, [], length, IfOk};
-ghost use Rattle.star_io.specs.declared.record.TheConstants.{MAX_RECORDS};
+ghost use Rattle.std.specs.Prelude.{◌≡◌, ◌≤◌, ◌<◌, ◌^◌, ◌∷◌, [], length, IfOk};
 ghost use Rattle.report_frame.specs.declared.limits.TheConstants.{MAX_LEVEL_TWO};
 ghost use Rattle.tag_groups.specs.Grouped.{groups_of};
 ghost use Rattle.layer_walk.specs.Made.{AreOuts, IsAfter, IsLevel};
@@ -41,7 +40,7 @@ pub struct Level {
 
 /// Level 0 of the records: the frames of this epoch and level 0 among them.
 pub fn level_zero(alloc: Global, records: &[Record], epoch: u32) -> Result<Level, NoMemory>
-    requires { length records.now ≤ MAX_RECORDS }
+    requires { length records.now < 2 ^ 32 }
     ensures zero { IfOk result (λ level. level ≡ level_zero_of epoch records.now) }
     ensures good { IfOk result (λ level. IsLevel level) }
 {

@@ -1,6 +1,5 @@
 // The reveal of a list of records.
-ghost use Rattle.std.specs.Prelude.{◌≡◌, ◌≤◌, length, IfOk};
-ghost use Rattle.star_io.specs.declared.record.TheConstants.{MAX_RECORDS};
+ghost use Rattle.std.specs.Prelude.{◌≡◌, ◌≤◌, ◌<◌, ◌^◌, length, IfOk};
 ghost use Rattle.recovery_pool.specs.declared.limits.TheConstants.{MAX_WORKERS};
 ghost use Rattle.layer_walk.specs.Reveal.{reveal_of};
 
@@ -21,7 +20,7 @@ pub fn reveal<R: Threads + Sync, G: Gate>(
     workers: u32,
     gate: &G,
 ) -> Result<Revealed, NoMemory>
-    requires records { length records.now ≤ MAX_RECORDS }
+    requires records { length records.now < 2 ^ 32 }
     requires workers { (1 ≤ workers) × (workers ≤ MAX_WORKERS) }
     ensures { IfOk result (λ told. told ≡ reveal_of epoch records.now) }
 {

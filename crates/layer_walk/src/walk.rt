@@ -1,7 +1,6 @@
 // Records that are taken as they come, and the walk over what they hold.
-ghost use Rattle.std.specs.Prelude.{◌≡◌, ◌≤◌, ◌<◌, ◌+◌, ◌++◌, ◌∷◌, [], List, IfOk, OnOk, OnErr};
+ghost use Rattle.std.specs.Prelude.{◌≡◌, ◌≤◌, ◌<◌, ◌+◌, ◌-◌, ◌^◌, ◌++◌, ◌∷◌, [], List, IfOk, OnOk, OnErr};
 ghost use Rattle.star_io.specs.declared.record.Record.{Record};
-ghost use Rattle.star_io.specs.declared.record.TheConstants.{MAX_RECORDS};
 ghost use Rattle.recovery_pool.specs.declared.limits.TheConstants.{MAX_WORKERS};
 ghost use Rattle.layer_walk.specs.Reveal.{reveal_of};
 ghost use Rattle.layer_walk.specs.Standing.{StandsFor};
@@ -44,7 +43,6 @@ impl Model for Walk {
 
     ghost use Rattle.std.specs.Prelude.{◌≡◌, ◌≤◌, List};
     ghost use Rattle.star_io.specs.declared.record.Record.{Record};
-    ghost use Rattle.star_io.specs.declared.record.TheConstants.{MAX_RECORDS};
     ghost use Rattle.layer_walk.specs.Standing.{IsWalk};
 
     ghost invariant = { λ w.
@@ -75,14 +73,14 @@ impl Walk {
     /// How many records were taken.
     pub fn taken(&self) -> u32
         ensures count { result ≡ self.now.taken }
-        ensures few { self.now.taken ≤ MAX_RECORDS }
+        ensures few { self.now.taken < 2 ^ 32 }
     {
         self.taken
     }
 
     /// Takes the next record. After `NoMemory` the walk is as before, and the record is dropped.
     pub fn take(&mut self, item: Record) -> Result<(), NoMemory>
-        requires { self.old.taken < MAX_RECORDS }
+        requires { self.old.taken < 2 ^ 32 - 1 }
         ensures epoch { self.new.epoch ≡ self.old.epoch }
         ensures taken { OnOk result (self.new.taken ≡ self.old.taken + 1) }
         ensures stands { OnOk result ((records : List Record) → StandsFor self.old records →

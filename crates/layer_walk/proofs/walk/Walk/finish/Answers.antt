@@ -1,7 +1,7 @@
-use Rattle.std.proofs.Common.{◌≡◌, ◌≤◌, ◌++◌, ◌∷◌, [], length, arith, sym, ap, ◌∙◌, subst}
+use Rattle.std.proofs.Common.{◌≡◌, ◌<◌, ◌++◌, ◌∷◌, [], length, arith, sym, ap, ◌∙◌, subst}
+use Rattle.std.specs.Prelude.{◌^◌}
 use Rattle.std.proofs.lemmas.List.{length-map}
 use Rattle.std.proofs.lemmas.Result.{IfOk-weaker}
-use Rattle.star_io.specs.declared.record.TheConstants.{MAX_RECORDS}
 use Rattle.report_frame.specs.declared.limits.TheConstants.{MAX_LAYERS}
 use Rattle.star_lists.specs.Ascending.{in_order}
 use Rattle.layer_walk.specs.declared.level.Level.{Level}
@@ -20,7 +20,7 @@ overflow_cast-count g c =
 pub told_from-requires-clause-first : goal.told_from-requires-clause-first
 told_from-requires-clause-first g c κs within =
     let walk = c.self.invariant in
-    let few : length walk.records ≤ MAX_RECORDS = omega (arith, walk.stands.taken, walk.few) in
+    let few : length walk.records < 2 ^ 32 = omega (arith, walk.stands.taken, walk.few) in
     let level : c.with_groups-first.result.level ≡ level_zero_of c.self.inside.epoch walk.records =
     c.with_groups-first.ensures.level ∙ (λ i. record { number = 0; epoch = c.self.inside.epoch; parents = c.in_ok-first_parents.ensures i; rows = walk.stands.rows i }) in
     subst IsLevel (sym level) (zero_good c.self.inside.epoch walk.records few)

@@ -6,7 +6,12 @@ use Rattle.layer_walk.proofs.walk.Walk.take.Goals as goal
 use Rattle.layer_walk.proofs.walk.Walk.take.Goals.{in-Ok+in_ok-add_headed-in-Ok, in-Err+in_ok-push-in-Err}
 
 pub add_headed-requires : goal.add_headed-requires
-add_headed-requires c = omega (arith, few_views _ c.self.invariant.records c.self.invariant.stands, c.self.invariant.few)
+add_headed-requires c =
+    let s = c.self.inside in
+    let old : WalkView = record { epoch = s.epoch; taken = s.taken; rows = s.rows; refusals = s.refusals } in
+    let seen : c.args.self.now ≡ old = cc c.self.view_is in
+    let count : c.args.self.now.taken ≡ s.taken = ap (λ (v : WalkView). v.taken) seen in
+    omega (arith, few_views _ c.self.invariant.records c.self.invariant.stands, count, c.requires)
 
 pub returns-clause-stands : goal.returns-clause-stands
 returns-clause-stands c records stands =
