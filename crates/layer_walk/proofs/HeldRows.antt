@@ -7,6 +7,8 @@ use Rattle.layer_walk.specs.declared.outcome.Outcome.{Outcome}
 use Rattle.layer_walk.specs.declared.outcome.Outcome.TheVariants.{Opened, Few, NoLine, BadValue}
 use Rattle.layer_walk.specs.declared.refusal.Refusal.{Refusal}
 use Rattle.layer_walk.specs.declared.refusal.Stage.TheVariants.{Layer}
+use Rattle.layer_walk.specs.declared.path.Step.{Step}
+use Rattle.layer_walk.specs.declared.level.Parent.{Parent}
 use Rattle.layer_walk.specs.declared.revealed.OpenedGroup.{OpenedGroup}
 use Rattle.layer_walk.specs.Rows.{Row, members, points_left}
 use Rattle.layer_walk.specs.Outcomes.{outcome_at}
@@ -14,7 +16,7 @@ use Rattle.layer_walk.specs.Members.{Next, next_at}
 use Rattle.layer_walk.specs.Members.Next.{Refused, Last, Inner}
 use Rattle.layer_walk.specs.Seen.{InnerView}
 use Rattle.layer_walk.specs.Bodies.{inner_in, refusal_in, extra_bytes, aux_in}
-use Rattle.layer_walk.specs.Levels.{path_with, child_of, where_opened, under, next_row, refused_row, aux_row, opened_row}
+use Rattle.layer_walk.specs.Levels.{path_with, child_of, where_opened, under, next_row, refused_row, aux_row, opened_row, child_row}
 
 -- where a group is opened, and what is there for its value
 pub record OpenedTo {X : Type 0} (f : List ℕ → ℕ → Option X) (o : Outcome) (x : X) : Type 0 where
@@ -117,14 +119,23 @@ aux_from e l rows row a h =
 
 -- ---- an opened group
 
-pub record ToldFrom (e l : ℕ) (rows : List Row) (row : Row) (group : OpenedGroup) : Type 0 where
+-- the row's group is opened, and on this path
+pub record OpenedOn (e l : ℕ) (rows : List Row) (row : Row) (path : List Step) : Type 0 where
   pub value : List ℕ
   pub agree : ℕ
   pub opened : outcome_at e l rows row ≡ Opened value agree
-  pub path : group.path ≡ path_with row value
+  pub path_is : path ≡ path_with row value
 
-pub told_from : (e l : ℕ) (rows : List Row) (row : Row) (group : OpenedGroup) → opened_row e l rows row ≡ Some group → ToldFrom e l rows row group
+pub told_from : (e l : ℕ) (rows : List Row) (row : Row) (group : OpenedGroup) → opened_row e l rows row ≡ Some group → OpenedOn e l rows row group.path
 told_from e l rows row group h =
-    let told : List ℕ → ℕ → OpenedGroup = λ value agree. record { path = path_with row value; points = length (points_left rows row); agree = agree; members = length (members rows row) } in
+    let told : List ℕ → ℕ → OpenedGroup =
+    λ value agree. record { path = path_with row value; points = length (points_left rows row); agree = agree; members = length (members rows row) } in
     let o = opened_to (λ value agree. Some (told value agree)) (outcome_at e l rows row) group h in
-    record { value = o.value; agree = o.agree; opened = o.opened; path = sym (ap (λ (g : OpenedGroup). g.path) (same_Some (told o.value o.agree) group o.gives)) }
+    let same = same_Some (told o.value o.agree) group o.gives in
+    record { value = o.value; agree = o.agree; opened = o.opened; path_is = sym (ap (λ (g : OpenedGroup). g.path) same) }
+
+pub child_from : (e l : ℕ) (rows : List Row) (row : Row) (child : Parent) → child_row e l rows row ≡ Some child → OpenedOn e l rows row child.path
+child_from e l rows row child h =
+    let o = opened_to (λ value agree. Some (child_of row value)) (outcome_at e l rows row) child h in
+    let same = same_Some (child_of row o.value) child o.gives in
+    record { value = o.value; agree = o.agree; opened = o.opened; path_is = sym (ap (λ (p : Parent). p.path) same) }

@@ -1,7 +1,7 @@
 -- What each group of a level gives is what its members give, row by row.
-use Rattle.std.proofs.Common.{◌≡◌, ◌≢◌, ℕ, ◌+◌, ◌<◌, true, false, cond, not, List, [], ◌∷◌, ◌++◌, Option, Some, length, refl, sym, ap, ◌∙◌, subst, map, filter, arith, All, AllPairs, append_assoc, append-nil, length-append, get_or}
+use Rattle.std.proofs.Common.{◌≡◌, ◌≢◌, ℕ, ◌+◌, ◌<◌, true, false, cond, not, List, [], ◌∷◌, ◌++◌, Option, None, Some, length, refl, sym, ap, ◌∙◌, subst, map, filter, arith, All, AllPairs, append_assoc, append-nil, length-append, get_or}
 use Rattle.std.specs.Prelude.{slice_get}
-use Rattle.std.specs.List.{flat_map, filter_map, AllZip, AllByRecursion}
+use Rattle.std.specs.List.{flat_map, filter_map, cons_option, AllZip, AllByRecursion}
 use Rattle.std.specs.List.Sorted.{IsPermutation, IsSorted, IsStrictlySortedBy}
 use Rattle.std.specs.Option.{option_map}
 use Rattle.std.specs.Ordering.{nat_cmp, is_lt}
@@ -36,9 +36,9 @@ use Rattle.layer_walk.specs.Outcomes.{outcome_of, outcome_at}
 use Rattle.layer_walk.specs.Members.{Next, keys_of, next_with, next_at, context_at}
 use Rattle.layer_walk.specs.Members.Next.{Refused, Last, Inner}
 use Rattle.layer_walk.specs.Bodies.{refusal_in, aux_in}
-use Rattle.layer_walk.specs.Levels.{where_opened, stepped, under, child_of, next_row, next_rows, refusals_at, aux_at}
+use Rattle.layer_walk.specs.Levels.{where_opened, stepped, under, child_of, child_row, parents_at, next_row, next_rows, refusals_at, aux_at}
 use Rattle.layer_walk.specs.Outs.{IsOut, parent_at, group_members, group_points, group_check, group_keys, group_outcome, of_opened, of_group, inner_under, refusal_under, aux_under}
-use Rattle.layer_walk.specs.Made.{named_row, named, row_cmp, AreOuts, IsLevel, group_child, child_under, parents_from}
+use Rattle.layer_walk.specs.Made.{named_row, named, row_cmp, AreOuts, IsLevel, group_child}
 use Rattle.layer_walk.specs.Kept.{adopt, next_number, kept_from}
 use Rattle.layer_walk.proofs.Numbers.{members_named, same_named}
 use Rattle.layer_walk.proofs.NextRows.{same_outcome, sorted_groups}
@@ -149,34 +149,52 @@ abbrev pub from_groups : {X : Type 0} → Level → (Row → Option X) → List 
 from_groups level f firsts = flat_map (λ first. filter_map f (members (named level) (named_row level.parents first))) firsts
 
 -- the number of the next parent is how many parents there are
-pub counted_on : (level : Level) (g : GroupView) (front : List Parent) (o : Outcome) → next_number (length front) o ≡ length (front ++ child_under level g o)
-counted_on level g front (Opened value agree) = sym (length-append front (group_child level g value ∷ []))
-counted_on level g front Few = ap length (sym (append-nil front))
-counted_on level g front NoLine = ap length (sym (append-nil front))
-counted_on level g front BadValue = ap length (sym (append-nil front))
+pub counted_on : (row : Row) (front : List Parent) (o : Outcome)
+    → next_number (length front) o ≡ length (front ++ cons_option (where_opened (λ value agree. Some (child_of row value)) o) [])
+counted_on row front (Opened value agree) = sym (length-append front (child_of row value ∷ []))
+counted_on row front Few = ap length (sym (append-nil front))
+counted_on row front NoLine = ap length (sym (append-nil front))
+counted_on row front BadValue = ap length (sym (append-nil front))
 
 parent_middle : (front : List Parent) (p : Parent) (rest : List Parent) → parent_at (front ++ p ∷ rest) (length front) ≡ p
 parent_middle [] p rest = refl
 parent_middle (q ∷ front) p rest = parent_middle front p rest
 
+pub joined_on : {X : Type 0} (front later : List X) (o : Option X) → front ++ cons_option o later ≡ (front ++ cons_option o []) ++ later
+joined_on front later None = ap (λ l. l ++ later) (sym (append-nil front))
+joined_on front later (Some x) = sym (append_assoc front (x ∷ []) later)
+
+-- what the rows of these first members give as parents
+abbrev pub children : Level → List RowView → List Parent
+children level firsts = filter_map (child_row level.epoch level.number (named level)) (map (named_row level.parents) firsts)
+
 -- the rows that all groups make, named
-pub made_named : (level : Level) → IsLevel level → (firsts : List RowView) → All (HasParent level) firsts → (outs : List GroupOut) → AllZip (IsOut level) (map (group_of level.rows) firsts) outs → (front all : List Parent) → all ≡ front ++ parents_from level (map (group_of level.rows) firsts) outs → map (named_row all) (kept_from (length front) outs) ≡ from_groups level (next_row level.epoch level.number (named level)) firsts
+pub made_named : (level : Level) → IsLevel level → (firsts : List RowView) → All (HasParent level) firsts → (outs : List GroupOut)
+    → AllZip (IsOut level) (map (group_of level.rows) firsts) outs → (front all : List Parent) → all ≡ front ++ children level firsts
+    → map (named_row all) (kept_from (length front) outs) ≡ from_groups level (next_row level.epoch level.number (named level)) firsts
 made_named level good [] inside [] zip front all e = refl
 made_named level good [] inside (o ∷ os) zip front all e = absurd zip
 made_named level good (f ∷ fs) inside [] zip front all e = absurd zip
 made_named level good (f ∷ fs) inside (o ∷ os) zip front all e =
     let g = group_of level.rows f in
-    let later = parents_from level (map (group_of level.rows) fs) os in
+    let F = named_row level.parents f in
+    let here = All-head (HasParent level) f fs inside in
+    let next = next_row level.epoch level.number (named level) in
+    let later = children level fs in
+    let as_child : Outcome → Option Parent = λ q. where_opened (λ value agree. Some (child_of F value)) q in
+    let is : group_outcome level g ≡ outcome_at level.epoch level.number (named level) F = outcome_is level good f here in
     let child : (value : List ℕ) (agree : ℕ) → group_outcome level g ≡ Opened value agree → parent_at all (length front) ≡ group_child level g value =
-    λ value agree is. ap (λ l. parent_at l (length front)) (e ∙ ap (λ q. front ++ (child_under level g q ++ later)) (zip.0.outcome ∙ is)) ∙ parent_middle front (group_child level g value) later in
-    let here : map (named_row all) (map (adopt (length front)) o.inner) ≡ filter_map (next_row level.epoch level.number (named level)) (members (named level) (named_row level.parents f)) =
-    ap (λ l. map (named_row all) (map (adopt (length front)) l)) zip.0.inner ∙ rows_given level good f (All-head (HasParent level) f fs inside) (length front) all child in
-    let front' = front ++ child_under level g o.outcome in
-    let rest : map (named_row all) (kept_from (length front') os) ≡ from_groups level (next_row level.epoch level.number (named level)) fs =
-    made_named level good fs (All-tail (HasParent level) f fs inside) os zip.1 front' all (e ∙ sym (append_assoc front (child_under level g o.outcome) later)) in
+    λ value agree opened. ap (λ l. parent_at l (length front)) (e ∙ ap (λ q. front ++ cons_option (as_child q) later) (sym is ∙ opened))
+    ∙ parent_middle front (group_child level g value) later in
+    let rows : map (named_row all) (map (adopt (length front)) o.inner) ≡ filter_map next (members (named level) F) =
+    ap (λ l. map (named_row all) (map (adopt (length front)) l)) zip.0.inner ∙ rows_given level good f here (length front) all child in
+    let front' = front ++ cons_option (child_row level.epoch level.number (named level) F) [] in
+    let number : next_number (length front) o.outcome ≡ length front' = counted_on F front o.outcome ∙ ap (λ q. length (front ++ cons_option (as_child q) [])) (zip.0.outcome ∙ is) in
+    let rest : map (named_row all) (kept_from (length front') os) ≡ from_groups level next fs =
+    made_named level good fs (All-tail (HasParent level) f fs inside) os zip.1 front' all (e ∙ joined_on front later (as_child (outcome_at level.epoch level.number (named level) F))) in
     map-append (named_row all) (map (adopt (length front)) o.inner) (kept_from (next_number (length front) o.outcome) os)
-    ∙ (λ i. here i ++ map (named_row all) (kept_from (counted_on level g front o.outcome i) os))
-    ∙ ap (λ l. filter_map (next_row level.epoch level.number (named level)) (members (named level) (named_row level.parents f)) ++ l) rest
+    ∙ (λ i. rows i ++ map (named_row all) (kept_from (number i) os))
+    ∙ ap (λ l. filter_map next (members (named level) F) ++ l) rest
 
 -- what else all groups make
 pub given_named : {X : Type 0} (level : Level) → IsLevel level → (h : Row → List ℕ → Next → Option X) (f : Keys → RowView → Option X) → ((first : RowView) (value : List ℕ) (r : RowView) → f (group_keys level (group_of level.rows first) value) r ≡ h (named_row level.parents r) value (next_with (group_keys level (group_of level.rows first) value) r.report))
@@ -225,7 +243,7 @@ up_named parents (r ∷ rs) h = (others rs h.0, up_named parents rs h.1)
     others [] a = tt
     others (y ∷ ys) a = (a.0, others ys a.1)
 
-some_row : RowView
+pub some_row : RowView
 some_row = record { index = 0; parent = 0; report = fields_from [] }
 
 -- and so does what a sort leaves
@@ -288,12 +306,13 @@ module _ (level : Level) (good : IsLevel level) (groups : List GroupView) (gs : 
   firsts_zip = subst (λ g. AllZip (IsOut level) g outs) gs zip
 
   -- The rows that are made group by group and then sorted stand for the next rows.
-  pub after_rows : (parents : List Parent) → parents ≡ parents_from level groups outs → (sorted : List RowView) → IsPermutation (kept_from 0 outs) sorted → IsSorted row_cmp sorted → map (named_row parents) sorted ≡ next_rows level.epoch level.number (named level)
-  unfolding groups_of next_rows
+  pub after_rows : (parents : List Parent) → parents ≡ parents_at level.epoch level.number (named level) → (sorted : List RowView) → IsPermutation (kept_from 0 outs) sorted → IsSorted row_cmp sorted → map (named_row parents) sorted ≡ next_rows level.epoch level.number (named level)
+  unfolding groups_of next_rows parents_at
   after_rows parents ps sorted moved order =
       let f = next_row level.epoch level.number (named level) in
       let made : map (named_row parents) (kept_from 0 outs) ≡ from_groups level f firsts =
-      made_named level good firsts firsts_inside outs firsts_zip [] parents (ps ∙ ap (λ g. parents_from level g outs) gs) in
+      made_named level good firsts firsts_inside outs firsts_zip [] parents
+      (ps ∙ ap (filter_map (child_row level.epoch level.number (named level))) (first_ones_named level.parents good.distinct level.rows good.parents)) in
       sorted_groups (λ (r : Row). r.index) f (index_kept level.epoch level.number (named level)) (named level) (map (named_row parents) (kept_from 0 outs)) (map (named_row parents) sorted) (up_named level.parents level.rows good.ascending)
       (made ∙ groups_of_named level good f) (IsPermutation-map (named_row parents) (kept_from 0 outs) sorted moved) (sorted_named parents sorted order)
 

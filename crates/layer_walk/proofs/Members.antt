@@ -22,7 +22,7 @@ rows_more rows places i row lt inside is =
     ∙ ap (λ o. rows_at rows (take i places) ++ cons_option o []) found
 
 -- a filter_map of one element more
-filter_map-last : {X Y : Type 0} (f : X → Option Y) (xs ys : List X) (x : X) (old new : List Y) → ys ≡ xs ++ x ∷ []
+pub filter_map-last : {X Y : Type 0} (f : X → Option Y) (xs ys : List X) (x : X) (old new : List Y) → ys ≡ xs ++ x ∷ []
     → old ≡ filter_map f xs → new ≡ old ++ cons_option (f x) [] → new ≡ filter_map f ys
 filter_map-last f xs ys x old new is was more =
     more ∙ ap (λ l. l ++ cons_option (f x) []) was ∙ sym (filter_map-append f xs (x ∷ [])) ∙ ap (filter_map f) (sym is)

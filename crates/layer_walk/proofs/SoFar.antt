@@ -1,10 +1,8 @@
 -- The walk after some levels.
 use Rattle.std.proofs.Common.{◌≡◌, ℕ, zero, suc, ◌+◌, ◌-◌, ◌≤◌, List, [], ◌++◌, sym, ap, ◌∙◌, subst, arith, append_assoc, append-nil, refl}
 use Rattle.star_lists.specs.Numbered.{joined_below}
-use Rattle.tag_groups.specs.GroupView.{GroupView}
 use Rattle.tag_groups.specs.Grouped.{groups_of}
 use Rattle.layer_walk.specs.declared.grouped.GroupedLevel.{GroupedLevel}
-use Rattle.layer_walk.specs.declared.group.GroupOut.{GroupOut}
 use Rattle.layer_walk.specs.declared.level.Level.{Level}
 use Rattle.layer_walk.specs.declared.refusal.Refusal.{Refusal}
 use Rattle.layer_walk.specs.declared.tell.Told.{Told}
@@ -41,9 +39,9 @@ none_done level outer told good number g c r a = record {
 }
 
 -- one more level
-pub one_more : (e : ℕ) (rows : List Row) (outer : List Refusal) (n : ℕ) (level next : Level) (groups : List GroupView) (outs : List GroupOut) (old new : Told) → IsSoFar e rows outer n level old → TellsLevel level old new → IsAfter level groups outs next → IsLevel next → IsSoFar e rows outer (n + 1) next new
+pub one_more : (e : ℕ) (rows : List Row) (outer : List Refusal) (n : ℕ) (level next : Level) (old new : Told) → IsSoFar e rows outer n level old → TellsLevel level old new → IsAfter level next → IsLevel next → IsSoFar e rows outer (n + 1) next new
 unfolding rows_from groups_told levels_told refusals_told aux_told
-one_more e rows outer n level next groups outs old new so tells after good =
+one_more e rows outer n level next old new so tells after good =
     let up : suc n ≡ n + 1 = omega arith in
     let told = so.is_told in
     subst (λ m. IsSoFar e rows outer m next new) up (record {

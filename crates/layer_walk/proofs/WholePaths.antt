@@ -21,9 +21,9 @@ use Rattle.layer_walk.specs.declared.level.Parent.{Parent}
 use Rattle.layer_walk.specs.declared.revealed.OpenedGroup.{OpenedGroup}
 use Rattle.layer_walk.specs.Rows.{Row, same_group, first_members}
 use Rattle.layer_walk.specs.Outcomes.{outcome_with, outcome_under, outcome_of, outcome_at}
-use Rattle.layer_walk.specs.Levels.{path_with, next_row, next_rows, rows_from, opened_row, opened_at}
+use Rattle.layer_walk.specs.Levels.{path_with, next_row, next_rows, rows_from, child_row, parents_at, opened_row, opened_at}
 use Rattle.layer_walk.specs.Reveal.{groups_told}
-use Rattle.layer_walk.proofs.HeldRows.{next_from, told_from}
+use Rattle.layer_walk.proofs.HeldRows.{OpenedOn, next_from, told_from, child_from}
 use Rattle.layer_walk.proofs.Same.{OneGroup, in_one_group}
 
 -- ---- an opened group's value is one to which its head opens
@@ -125,38 +125,60 @@ depth_from e rows h (suc l) = depth_next e l (rows_from e rows l) (depth_from e 
 abbrev pub PathsApart : List OpenedGroup → Type 0
 PathsApart groups = Pairwise (λ (g h : OpenedGroup). g.path ≢ h.path) groups
 
--- groups that are told from rows of which no two stand in one group
-told_apart : (e l : ℕ) (rows firsts : List Row) → PathsFix rows → ((r : Row) → In r firsts → In r rows) → Pairwise (λ a b. same_group a b ≡ false) firsts → PathsApart (filter_map (opened_row e l rows) firsts)
-told_apart e l rows [] fix inside apart = tt
-told_apart e l rows (a ∷ firsts) fix inside apart =
-    let later = told_apart e l rows firsts fix (λ r i. inside r (inr i)) apart.1 in
-    elim (opened_row e l rows a) as (λ o. opened_row e l rows a ≡ o → PathsApart (cons_option o (filter_map (opened_row e l rows) firsts))) [
-      | None ↦ λ _. later
-      | Some g ↦ λ is. (
-        all_of (λ (h : OpenedGroup). g.path ≢ h.path) (filter_map (opened_row e l rows) firsts) (λ h i same.
-            let f = from_filter_map (opened_row e l rows) firsts h i in
-            let ta = told_from e l rows a g is in
-            let tb = told_from e l rows f.0 h f.2 in
-            let one = one_path e l rows a f.0 ta.value tb.value ta.agree tb.agree fix (inside a (inl refl)) (inside f.0 (inr f.1)) ta.opened tb.opened (sym ta.path ∙ same ∙ tb.path) in
-            let no : true ≡ false = sym (in_one_group a f.0 one) ∙ of_all (λ b. same_group a b ≡ false) firsts apart.0 f.0 f.1 in
-            cc),
-        later,
-      )
-    ] refl
+-- what rows give whose groups are opened, each on the path of its row's group
+module _ {X : Type 0} (e l : ℕ) (rows : List Row) (f : Row → Option X) (path : X → List Step)
+    (given : (row : Row) (x : X) → f row ≡ Some x → OpenedOn e l rows row (path x)) where
+  given_apart : (firsts : List Row) → PathsFix rows → ((r : Row) → In r firsts → In r rows) → Pairwise (λ a b. same_group a b ≡ false) firsts
+      → Pairwise (λ (x y : X). path x ≢ path y) (filter_map f firsts)
+  given_apart [] fix inside apart = tt
+  given_apart (a ∷ firsts) fix inside apart =
+      let later = given_apart firsts fix (λ r i. inside r (inr i)) apart.1 in
+      elim (f a) as (λ o. f a ≡ o → Pairwise (λ (x y : X). path x ≢ path y) (cons_option o (filter_map f firsts))) [
+        | None ↦ λ _. later
+        | Some x ↦ λ is. (
+          all_of (λ (y : X). path x ≢ path y) (filter_map f firsts) (λ y i same.
+              let from = from_filter_map f firsts y i in
+              let at = given a x is in
+              let behind = given from.0 y from.2 in
+              let one = one_path e l rows a from.0 at.value behind.value at.agree behind.agree fix (inside a (inl refl)) (inside from.0 (inr from.1))
+              at.opened behind.opened (sym at.path_is ∙ same ∙ behind.path_is) in
+              let no : true ≡ false = sym (in_one_group a from.0 one) ∙ of_all (λ b. same_group a b ≡ false) firsts apart.0 from.0 from.1 in
+              cc),
+          later,
+        )
+      ] refl
 
-pub opened_apart : (e l : ℕ) (rows : List Row) → PathsFix rows → PathsApart (opened_at e l rows)
+  -- no two groups are on one path
+  pub firsts_apart : PathsFix rows → Pairwise (λ (x y : X). path x ≢ path y) (filter_map f (first_members rows))
+  firsts_apart fix = given_apart (first_members rows) fix (in_firsts same_group rows) (firsts_differ same_group rows)
+
+  -- and each path is one step longer
+  pub firsts_deep : (x : X) → Depth l rows → In x (filter_map f (first_members rows)) → length (path x) ≡ l + 1
+  unfolding Depth
+  firsts_deep x deep i =
+      let from = from_filter_map f (first_members rows) x i in
+      let at = given from.0 x from.2 in
+      let long : length (path x) ≡ length (path_with from.0 at.value) = ap length at.path_is in
+      let more : length (path_with from.0 at.value) ≡ length from.0.parent.path + 1 = length-append from.0.parent.path _ in
+      let was : length from.0.parent.path ≡ l = deep from.0 (in_firsts same_group rows from.0 from.1) in
+      omega arith
+
+opened_apart : (e l : ℕ) (rows : List Row) → PathsFix rows → PathsApart (opened_at e l rows)
 unfolding opened_at
-opened_apart e l rows fix = told_apart e l rows (first_members rows) fix (in_firsts same_group rows) (firsts_differ same_group rows)
+opened_apart e l rows fix = firsts_apart e l rows (opened_row e l rows) (λ (g : OpenedGroup). g.path) (told_from e l rows) fix
 
 opened_deep : (e l : ℕ) (rows : List Row) (group : OpenedGroup) → Depth l rows → In group (opened_at e l rows) → length group.path ≡ l + 1
-unfolding opened_at Depth
-opened_deep e l rows group deep i =
-    let f = from_filter_map (opened_row e l rows) (first_members rows) group i in
-    let t = told_from e l rows f.0 group f.2 in
-    let long : length group.path ≡ length (path_with f.0 t.value) = ap length t.path in
-    let more : length (path_with f.0 t.value) ≡ length f.0.parent.path + 1 = length-append f.0.parent.path _ in
-    let was : length f.0.parent.path ≡ l = deep f.0 (in_firsts same_group rows f.0 f.1) in
-    omega arith
+unfolding opened_at
+opened_deep e l rows = firsts_deep e l rows (opened_row e l rows) (λ (g : OpenedGroup). g.path) (told_from e l rows)
+
+-- the same of the parents of the next level
+pub parents_apart : (e l : ℕ) (rows : List Row) → PathsFix rows → Pairwise (λ (p q : Parent). p.path ≢ q.path) (parents_at e l rows)
+unfolding parents_at
+parents_apart e l rows fix = firsts_apart e l rows (child_row e l rows) (λ (p : Parent). p.path) (child_from e l rows) fix
+
+pub parents_deep : (e l : ℕ) (rows : List Row) (parent : Parent) → Depth l rows → In parent (parents_at e l rows) → length parent.path ≡ l + 1
+unfolding parents_at
+parents_deep e l rows = firsts_deep e l rows (child_row e l rows) (λ (p : Parent). p.path) (child_from e l rows)
 
 -- the groups of the levels below n have paths of at most n steps
 told_short : (e : ℕ) (rows : List Row) → Depth 0 rows → (n : ℕ) (group : OpenedGroup) → In group (groups_told e rows n) → length group.path ≤ n

@@ -66,6 +66,14 @@ aux_row e l rows row = where_opened (λ value agree. aux_in l row.index (next_at
 unfoldable pub aux_at : ℕ → ℕ → List Row → List Aux
 aux_at e l rows = filter_map (aux_row e l rows) rows
 
+-- the row's group as a parent, where it is opened
+abbrev pub child_row : ℕ → ℕ → List Row → Row → Option Parent
+child_row e l rows row = where_opened (λ value agree. Some (child_of row value)) (outcome_at e l rows row)
+
+-- the opened groups of a level as the parents of the next, in the order of their first members
+unfoldable pub parents_at : ℕ → ℕ → List Row → List Parent
+parents_at e l rows = filter_map (child_row e l rows) (first_members rows)
+
 -- the row's group as it is told, where it is opened
 abbrev pub opened_row : ℕ → ℕ → List Row → Row → Option OpenedGroup
 opened_row e l rows row =

@@ -9,11 +9,9 @@ use Rattle.tag_groups.specs.GroupView.{GroupView}
 use Rattle.layer_walk.specs.declared.group.GroupOut.{GroupOut}
 use Rattle.layer_walk.specs.declared.level.Level.{Level}
 use Rattle.layer_walk.specs.declared.level.Parent.{Parent}
-use Rattle.layer_walk.specs.declared.outcome.Outcome.{Outcome}
-use Rattle.layer_walk.specs.declared.outcome.Outcome.TheVariants.{Opened, Few, NoLine, BadValue}
 use Rattle.layer_walk.specs.Rows.{Row}
 use Rattle.layer_walk.specs.Outs.{IsOut, parent_at}
-use Rattle.layer_walk.specs.Levels.{next_rows}
+use Rattle.layer_walk.specs.Levels.{next_rows, parents_at}
 
 -- the row that a row of the code stands for: the number of its parent becomes that parent
 abbrev pub named_row : List Parent → RowView → Row
@@ -47,22 +45,9 @@ group_child level group value =
       check = group.head.check;
     }
 
--- the group as a parent, where it is opened
-abbrev pub child_under : Level → GroupView → Outcome → List Parent
-child_under level group (Opened value agree) = group_child level group value ∷ []
-child_under level group Few = []
-child_under level group NoLine = []
-child_under level group BadValue = []
-
--- the opened groups as parents, in the order of the groups
-abbrev pub parents_from : Level → List GroupView → List GroupOut → List Parent
-parents_from level [] outs = []
-parents_from level (g ∷ gs) [] = []
-parents_from level (g ∷ gs) (o ∷ os) = child_under level g o.outcome ++ parents_from level gs os
-
 -- The level after: its parents are the opened groups, and the rows that it stands for are the next rows.
-pub record IsAfter (level : Level) (groups : List GroupView) (outs : List GroupOut) (next : Level) : Type 0 where
+pub record IsAfter (level next : Level) : Type 0 where
   pub number : next.number ≡ level.number + 1
   pub epoch : next.epoch ≡ level.epoch
-  pub parents : next.parents ≡ parents_from level groups outs
+  pub parents : next.parents ≡ parents_at level.epoch level.number (named level)
   pub rows : named next ≡ next_rows level.epoch level.number (named level)

@@ -21,16 +21,6 @@ told_under level group points Few = []
 told_under level group points NoLine = []
 told_under level group points BadValue = []
 
--- the group as it is told, where it is opened
-abbrev pub told_group : Level → GroupView → GroupOut → List OpenedGroup
-told_group level group out = told_under level group out.points out.outcome
-
--- the opened groups as they are told, in the order of the groups
-abbrev pub told_groups : Level → List GroupView → List GroupOut → List OpenedGroup
-told_groups level [] outs = []
-told_groups level (g ∷ gs) [] = []
-told_groups level (g ∷ gs) (o ∷ os) = told_group level g o ++ told_groups level gs os
-
 -- how the groups came out
 abbrev pub outcomes_of : List GroupOut → List Outcome
 outcomes_of outs = map (λ (o : GroupOut). o.outcome) outs

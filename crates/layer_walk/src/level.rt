@@ -83,7 +83,7 @@ pub fn level_after(
     requires number { level.now.number ≤ MAX_LEVEL_TWO }
     requires groups { groups.now ≡ groups_of level.now.rows }
     requires outs { AreOuts level.now groups.now outs.now }
-    ensures after { IfOk result (λ next. IsAfter level.now groups.now outs.now next) }
+    ensures after { IfOk result (λ next. IsAfter level.now next) }
     ensures good { IfOk result (λ next. IsLevel next) }
 {
     let parents = parents_of(alloc, level, groups, outs)?;

@@ -75,7 +75,7 @@ fn pass_level<R: Threads>(
     requires groups { here.groups ≡ groups_of here.level.rows }
     requires outs { AreOuts here.level here.groups outs.items }
     ensures tells { IfOk result (λ _. TellsLevel here.level told.old told.new) }
-    ensures after { IfOk result (λ next. IsAfter here.level here.groups outs.items next.level) }
+    ensures after { IfOk result (λ next. IsAfter here.level next.level) }
     ensures good { IfOk result (λ next. IsLevel next.level) }
     ensures groups { IfOk result (λ next. next.groups ≡ groups_of next.level.rows) }
 {

@@ -4,7 +4,8 @@ ghost use Rattle.report_frame.specs.declared.limits.TheConstants.{MAX_LEVEL_TWO}
 ghost use Rattle.tag_groups.specs.Grouped.{groups_of};
 ghost use Rattle.layer_walk.specs.declared.path.TheConstants.{MAX_STEPS};
 ghost use Rattle.layer_walk.specs.Outs.{parent_at};
-ghost use Rattle.layer_walk.specs.Made.{group_child, parents_from, AreOuts, IsLevel};
+ghost use Rattle.layer_walk.specs.Levels.{parents_at};
+ghost use Rattle.layer_walk.specs.Made.{group_child, named, AreOuts, IsLevel};
 
 use crate::group::GroupOut;
 use crate::level::{Level, Parent, Parents};
@@ -26,7 +27,8 @@ pub(crate) fn parents_of(
     requires number { level.now.number ≤ MAX_LEVEL_TWO }
     requires groups { groups.now ≡ groups_of level.now.rows }
     requires outs { AreOuts level.now groups.now outs.now }
-    ensures { IfOk result (λ parents. parents ≡ parents_from level.now groups.now outs.now) }
+    ensures { IfOk result (λ parents. parents
+        ≡ parents_at level.now.epoch level.now.number (named level.now)) }
 {
     let mut parents = Parents::new(alloc);
     for (i, out) in outs.iter().enumerate() {

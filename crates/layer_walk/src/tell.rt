@@ -2,9 +2,9 @@
 ghost use Rattle.std.specs.Prelude.{◌≡◌, ◌<◌, ◌≤◌, ◌^◌, ◌++◌, length, IfOk};
 ghost use Rattle.report_frame.specs.declared.limits.TheConstants.{MAX_LEVEL_TWO};
 ghost use Rattle.tag_groups.specs.Grouped.{groups_of};
-ghost use Rattle.layer_walk.specs.Levels.{count_of, counts_of};
-ghost use Rattle.layer_walk.specs.Made.{AreOuts, IsLevel};
-ghost use Rattle.layer_walk.specs.Told.{told_groups, outcomes_of, revealed_of};
+ghost use Rattle.layer_walk.specs.Levels.{count_of, counts_of, opened_at};
+ghost use Rattle.layer_walk.specs.Made.{named, AreOuts, IsLevel};
+ghost use Rattle.layer_walk.specs.Told.{outcomes_of, revealed_of};
 
 use crate::auxiliary::{Aux, Auxes};
 use crate::group::GroupOut;
@@ -60,7 +60,7 @@ pub(crate) fn tell_groups(
     requires groups { groups.now ≡ groups_of level.now.rows }
     requires outs { AreOuts level.now groups.now outs.now }
     ensures { IfOk result (λ _. told.new.items
-        ≡ told.old.items ++ told_groups level.now groups.now outs.now) }
+        ≡ told.old.items ++ opened_at level.now.epoch level.now.number (named level.now)) }
 {
     for (i, out) in outs.iter().enumerate() {
         if let Outcome::Opened { value, agree } = &out.outcome {

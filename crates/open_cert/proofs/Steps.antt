@@ -5,7 +5,6 @@ use Rattle.report_frame.specs.declared.limits.TheConstants.{MAX_LAYERS}
 use Rattle.star_lists.specs.Ascending.{in_order}
 use Rattle.star_lists.proofs.Stable.{stable_sort}
 use Rattle.tag_groups.specs.Grouped.{groups_of}
-use Rattle.layer_walk.specs.declared.group.GroupOut.{GroupOut}
 use Rattle.layer_walk.specs.declared.grouped.GroupedLevel.{GroupedLevel}
 use Rattle.layer_walk.specs.declared.level.Level.{Level}
 use Rattle.layer_walk.specs.Kept.{IsSortOf}
@@ -42,11 +41,11 @@ none_done e records zero here made is good same groups none = record {
 }
 
 -- one more level
-pub one_more : (e : ℕ) (records : List Record) (n : ℕ) (here : GroupedLevel) (after : Level) (next : GroupedLevel) (outs : List GroupOut) (made more both : List Certified) → IsHere e records n here made
-    → more ≡ certified_groups here.level here.groups → both ≡ made ++ more → IsAfter here.level here.groups outs after → IsLevel after → next.level ≡ after → next.groups ≡ groups_of after.rows
+pub one_more : (e : ℕ) (records : List Record) (n : ℕ) (here : GroupedLevel) (after : Level) (next : GroupedLevel) (made more both : List Certified) → IsHere e records n here made
+    → more ≡ certified_groups here.level here.groups → both ≡ made ++ more → IsAfter here.level after → IsLevel after → next.level ≡ after → next.groups ≡ groups_of after.rows
     → IsHere e records (n + 1) next both
 unfolding rows_from certified_told
-one_more e records n here after next outs made more both so level joined follows good same groups =
+one_more e records n here after next made more both so level joined follows good same groups =
     let outer = outer_rows e records in
     let up : suc n ≡ n + 1 = omega arith in
     let new : more ≡ certified_at e n (rows_from e outer n) =

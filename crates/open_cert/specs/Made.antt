@@ -1,5 +1,5 @@
 -- What the code makes of the opened groups of a level.
-use Rattle.std.specs.Prelude.{ℕ, List, [], length, map}
+use Rattle.std.specs.Prelude.{List, length, map}
 use Rattle.std.specs.List.{flat_map}
 use Rattle.shamir_limbs.specs.Numbers.{line_numbers}
 use Rattle.tag_groups.specs.GroupView.{GroupView}

@@ -15,7 +15,7 @@ returns-clause-after c =
     let outs = c.args.outs.now in
     let sorted = c.in_ok-rows.rows.items in
     let moved : IsPermutation (kept_from 0 outs) sorted = subst (λ l. IsPermutation l sorted) c.in_ok-copied_rows.ensures c.in_ok-rows.ensures.moved in
-    subst (λ l. IsAfter level groups outs (record { number = level.number + 1; epoch = level.epoch; parents = c.in_ok-parents.parents; rows = l })) (sym c.from_vec.ensures)
+    subst (λ l. IsAfter level (record { number = level.number + 1; epoch = level.epoch; parents = c.in_ok-parents.parents; rows = l })) (sym c.from_vec.ensures)
     (is_after level c.requires.level c.requires.number groups c.requires.groups outs c.requires.outs c.in_ok-parents.parents c.in_ok-parents.ensures sorted moved c.in_ok-rows.ensures.rises)
 
 pub returns-clause-good : goal.returns-clause-good

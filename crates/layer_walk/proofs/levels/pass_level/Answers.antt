@@ -4,11 +4,11 @@ use Rattle.tag_groups.specs.RowView.{RowView}
 use Rattle.layer_walk.specs.declared.level.Level.{Level}
 use Rattle.layer_walk.specs.Kept.{kept_from, all_refusals, all_aux}
 use Rattle.layer_walk.specs.Levels.{counts_of}
-use Rattle.layer_walk.specs.Made.{parents_from, IsAfter, IsLevel}
-use Rattle.layer_walk.specs.Told.{told_groups, outcomes_of}
+use Rattle.layer_walk.specs.Made.{IsAfter, IsLevel}
+use Rattle.layer_walk.specs.Told.{outcomes_of}
 use Rattle.layer_walk.proofs.Making.{refusals_given, aux_given}
 use Rattle.layer_walk.proofs.Next.{is_after, is_level, outs_few}
-use Rattle.layer_walk.proofs.Telling.{opened_told, counts_told}
+use Rattle.layer_walk.proofs.Telling.{counts_told}
 use Rattle.layer_walk.proofs.levels.pass_level.Goals as goal
 
 pub tell_count-requires : goal.tell_count-requires
@@ -25,7 +25,7 @@ grouper_after-requires g c =
     let outs = c.args.outs.items in
     let sorted = c.in_ok-sorted_rows.field-0.items in
     let moved : IsPermutation (kept_from 0 outs) sorted = subst (λ l. IsPermutation l sorted) c.in_ok-rows.ensures.rows c.in_ok-sorted_rows.ensures.moved in
-    (is_level level c.requires.level c.requires.number groups c.requires.groups outs c.requires.outs c.in_ok-parents.parents (c.in_ok-parents.ensures ∙ ap (parents_from level groups) c.as_slice-3.ensures.value) sorted moved c.in_ok-sorted_rows.ensures.rises).few
+    (is_level level c.requires.level c.requires.number groups c.requires.groups outs c.requires.outs c.in_ok-parents.parents c.in_ok-parents.ensures sorted moved c.in_ok-sorted_rows.ensures.rises).few
 
 pub returns-clause-tells : goal.returns-clause-tells
 returns-clause-tells g c =
@@ -38,7 +38,7 @@ returns-clause-tells g c =
     let refused : IsPermutation (all_refusals outs) refusals = subst (λ l. IsPermutation l refusals) c.in_ok-rows.ensures.refusals c.in_ok-sorted_refusals.ensures.moved in
     let extra : IsPermutation (all_aux outs) aux = subst (λ l. IsPermutation l aux) c.in_ok-rows.ensures.aux c.in_ok-sorted_aux.ensures.moved in
     record {
-      groups = c.in_ok-tell_groups.ensures ∙ ap (λ l. told.groups.items ++ l) (ap (told_groups level groups) c.as_slice.ensures.value ∙ opened_told level c.requires.level groups c.requires.groups outs c.requires.outs);
+      groups = c.in_ok-tell_groups.ensures;
       levels = c.in_ok-tell_count.ensures ∙ ap (λ l. told.levels ++ l) (ap (λ l. counts_of (outcomes_of l)) c.as_slice-2.ensures.value ∙ counts_told level c.requires.level groups c.requires.groups outs c.requires.outs);
       refusals = c.in_ok-append.ensures ∙ ap (λ l. told.refusals.items ++ l) (refusals_given level c.requires.level groups c.requires.groups outs c.requires.outs refusals refused c.in_ok-sorted_refusals.ensures.rises);
       aux = c.in_ok-append-2.ensures ∙ ap (λ l. told.aux.items ++ l) (aux_given level c.requires.level groups c.requires.groups outs c.requires.outs aux extra c.in_ok-sorted_aux.ensures.rises);
@@ -52,8 +52,8 @@ returns-clause-after g c =
     let sorted = c.in_ok-sorted_rows.field-0.items in
     let moved : IsPermutation (kept_from 0 outs) sorted = subst (λ l. IsPermutation l sorted) c.in_ok-rows.ensures.rows c.in_ok-sorted_rows.ensures.moved in
     let made : List RowView → Level = λ l. record { number = level.number + 1; epoch = level.epoch; parents = c.in_ok-parents.parents; rows = l } in
-    subst (IsAfter level groups outs) (sym (c.with_groups.ensures.level ∙ ap made c.in_ok-grouper.ensures))
-    (is_after level c.requires.level c.requires.number groups c.requires.groups outs c.requires.outs c.in_ok-parents.parents (c.in_ok-parents.ensures ∙ ap (parents_from level groups) c.as_slice-3.ensures.value) sorted moved c.in_ok-sorted_rows.ensures.rises)
+    subst (IsAfter level) (sym (c.with_groups.ensures.level ∙ ap made c.in_ok-grouper.ensures))
+    (is_after level c.requires.level c.requires.number groups c.requires.groups outs c.requires.outs c.in_ok-parents.parents c.in_ok-parents.ensures sorted moved c.in_ok-sorted_rows.ensures.rises)
 
 pub returns-clause-good : goal.returns-clause-good
 returns-clause-good g c =
@@ -64,4 +64,4 @@ returns-clause-good g c =
     let moved : IsPermutation (kept_from 0 outs) sorted = subst (λ l. IsPermutation l sorted) c.in_ok-rows.ensures.rows c.in_ok-sorted_rows.ensures.moved in
     let made : List RowView → Level = λ l. record { number = level.number + 1; epoch = level.epoch; parents = c.in_ok-parents.parents; rows = l } in
     subst IsLevel (sym (c.with_groups.ensures.level ∙ ap made c.in_ok-grouper.ensures))
-    (is_level level c.requires.level c.requires.number groups c.requires.groups outs c.requires.outs c.in_ok-parents.parents (c.in_ok-parents.ensures ∙ ap (parents_from level groups) c.as_slice-3.ensures.value) sorted moved c.in_ok-sorted_rows.ensures.rises)
+    (is_level level c.requires.level c.requires.number groups c.requires.groups outs c.requires.outs c.in_ok-parents.parents c.in_ok-parents.ensures sorted moved c.in_ok-sorted_rows.ensures.rises)

@@ -1,9 +1,15 @@
-use Rattle.std.proofs.Common.{◌≡◌, ◌<◌, ◌++◌, ◌∷◌, [], length, arith, sym, ap, ◌∙◌, get_or, take, append_assoc, append-nil}
-use Rattle.std.proofs.lemmas.List.{get_or_default}
+use Rattle.std.proofs.Common.{◌≡◌, ◌<◌, ◌++◌, ◌∷◌, [], length, arith, sym, ap, ◌∙◌, take, append_assoc, append-nil}
+use Rattle.std.specs.List.{filter_map, cons_option}
+use Rattle.std.proofs.lemmas.List.{take_all}
+use Rattle.std.proofs.lemmas.List.Elements.{filter_map-append}
+use Rattle.tag_groups.specs.Grouped.{group_of}
+use Rattle.layer_walk.specs.Rows.{first_members}
+use Rattle.layer_walk.specs.Levels.{opened_row, opened_at}
 use Rattle.layer_walk.specs.Outs.{IsOut, FitsLevel}
-use Rattle.layer_walk.specs.Told.{told_under, told_group, told_groups}
+use Rattle.layer_walk.specs.Made.{named, named_row, group_child}
 use Rattle.layer_walk.proofs.Next.{fit_at}
-use Rattle.layer_walk.proofs.Pairs.{zip_lengths, group_at, told_step, told_all, closed_told, some_group}
+use Rattle.layer_walk.proofs.Pairs.{zip_lengths}
+use Rattle.layer_walk.proofs.Telling.{told_option, group_told, out_at, outs_count, shut_none}
 use Rattle.layer_walk.proofs.tell.tell_groups.Goals as goal
 use Rattle.layer_walk.proofs.tell.tell_groups.Goals.{in-Opened+in_ok-push, in_default}
 
@@ -24,33 +30,35 @@ overflow_cast-members c =
 pub loop-i-preserved : goal.loop-i-preserved
 loop-i-preserved c =
     let level = c.args.level.now in
-    let groups = c.args.groups.now in
-    let outs = c.args.outs.now in
+    let out = c.index-outs-i.result in
     let before = c.args.told.now.items in
-    let inside : c.loop-i.i < length groups = omega (arith, c.loop-i-test.true, zip_lengths (IsOut level) groups outs c.requires.outs) in
-    let o = c.index-outs-i.result in
-    elim c.match-out.branch [
+    let f = opened_row level.epoch level.number (named level) in
+    let all = first_members (named level) in
+    let at = out_at level c.requires.level c.args.groups.now c.requires.groups c.args.outs.now c.requires.outs c.loop-i.i out c.loop-i-test.true c.index-outs-i.is in
+    let F = named_row level.parents at.first in
+    let told : told_option level (group_of level.rows at.first) out.points out.outcome ≡ f F =
+    (λ i. told_option level (group_of level.rows at.first) (at.is_out.points i) (at.is_out.outcome i)) ∙ group_told level c.requires.level at.first at.inside in
+    let one : c.match-out.told.items ≡ c.loop-i.told.items ++ cons_option (f F) [] = elim c.match-out.branch [
       | in-Opened+in_ok-push w ↦
-          let g = w.get-group.result.now in
-          let told : c.match-out.told.items ≡ c.loop-i.told.items ++ told_group level g o =
+          let g = at.group w.get-group.result.now w.get-group.ensures in
           ap (λ v. v.items) w.told-is ∙ w.in_ok-push.ensures.items
-          ∙ (λ i. c.loop-i.told.items ++ record { path = w.group_path.ensures i; points = o.points; agree = w.in-Opened.agree; members = length (w.members.ensures i) } ∷ [])
-          ∙ ap (λ q. c.loop-i.told.items ++ told_under level g o.points q) (sym w.in-Opened.is) in
-          told ∙ ap (λ l. l ++ told_group level g o) c.loop-i.invariant
-          ∙ append_assoc before _ (told_group level g o)
-          ∙ ap (λ l. before ++ l) (sym (told_step level groups outs c.loop-i.i g o inside c.loop-i-test.true (group_at groups c.loop-i.i g inside w.get-group.ensures) c.index-outs-i.is))
+          ∙ (λ i. c.loop-i.told.items ++ record { path = w.group_path.ensures i; points = out.points; agree = w.in-Opened.agree; members = length (w.members.ensures i) } ∷ [])
+          ∙ (λ i. c.loop-i.told.items ++ record { path = (group_child level (g i) w.in-Opened.value).path; points = out.points; agree = w.in-Opened.agree; members = length (g i).members } ∷ [])
+          ∙ ap (λ o. c.loop-i.told.items ++ cons_option (told_option level (group_of level.rows at.first) out.points o) []) (sym w.in-Opened.is)
+          ∙ ap (λ o. c.loop-i.told.items ++ cons_option o []) told
       | in_default w ↦
-          let g = get_or groups c.loop-i.i some_group in
-          let so_far = told_groups level (take c.loop-i.i groups) (take c.loop-i.i outs) in
-          let here : g ≡ get_or groups c.loop-i.i g = get_or_default groups c.loop-i.i some_group g inside in
-          ap (λ v. v.items) w.told-is ∙ c.loop-i.invariant
-          ∙ ap (λ l. before ++ l) (
-          sym (append-nil so_far) ∙ ap (λ l. so_far ++ l) (sym (closed_told level g o.points o.outcome w.in_default.not-Opened))
-          ∙ sym (told_step level groups outs c.loop-i.i g o inside c.loop-i-test.true here c.index-outs-i.is)
-          )
-    ]
+          ap (λ v. v.items) w.told-is ∙ sym (append-nil c.loop-i.told.items)
+          ∙ ap (λ o. c.loop-i.told.items ++ cons_option o []) (sym (shut_none _ out.outcome w.in_default.not-Opened) ∙ told)
+    ] in
+    one ∙ ap (λ l. l ++ cons_option (f F) []) c.loop-i.invariant
+    ∙ append_assoc before (filter_map f (take c.loop-i.i all)) (cons_option (f F) [])
+    ∙ ap (λ l. before ++ l) (sym (ap (filter_map f) at.more ∙ filter_map-append f (take c.loop-i.i all) (F ∷ [])))
 
 pub returns : goal.returns
+unfolding opened_at
 returns c =
-    let same = zip_lengths (IsOut c.args.level.now) c.args.groups.now c.args.outs.now c.requires.outs in
-    c.loop-i.invariant ∙ ap (λ l. c.args.told.now.items ++ l) (told_all c.args.level.now c.args.groups.now c.args.outs.now c.loop-i.i (omega (arith, c.loop-i-test.false)) (omega (arith, c.loop-i-test.false)))
+    let level = c.args.level.now in
+    let count = outs_count level c.requires.level c.args.groups.now c.requires.groups c.args.outs.now c.requires.outs in
+    c.loop-i.invariant
+    ∙ ap (λ l. c.args.told.now.items ++ filter_map (opened_row level.epoch level.number (named level)) l)
+    (take_all c.loop-i.i (first_members (named level)) (omega (arith, c.loop-i-test.false, count)))

@@ -1,6 +1,10 @@
 use Rattle.std.proofs.Common.{◌≡◌, ◌++◌, take}
-use Rattle.layer_walk.specs.Told.{told_groups}
+use Rattle.std.specs.List.{filter_map}
+use Rattle.layer_walk.specs.Rows.{first_members}
+use Rattle.layer_walk.specs.Levels.{opened_row}
+use Rattle.layer_walk.specs.Made.{named}
 use Rattle.layer_walk.proofs.tell.tell_groups.Given as goal
 
 abbrev pub invariant-loop-i : goal.invariant-loop-i
-invariant-loop-i l = l.told.items ≡ l.initial.told.items ++ told_groups l.level (take l.i l.groups) (take l.i l.outs)
+invariant-loop-i l =
+    l.told.items ≡ l.initial.told.items ++ filter_map (opened_row l.level.epoch l.level.number (named l.level)) (take l.i (first_members (named l.level)))
