@@ -293,26 +293,25 @@ def _share(members, week):
     return joined([number(members), element("span", " " + percent(members, week.rows), class_="soft")])
 
 
-def list_of_weeks(weeks):
+def list_of_weeks(weeks, preview):
     rows = []
-    for week in reversed(weeks):
+    for week in ([preview] if preview else []) + weeks[::-1]:
         about = week.about
-        name = joined([element("a", about.name, href="%d.html" % about.epoch), "" if about.closed else element("span", " still open", class_="soft")])
+        name = joined([element("a", about.name, href=about.text_name.replace("txt", "html")), "" if about.closed else element("span", " so far", class_="soft")])
         rows.append((name, str(about.epoch), week.rows, week.opened, week.few, week.refused, about.at_the_door(), about.made))
     return section("Weeks", table(["week", "epoch", "#reports", "#opened", "#below threshold", "#refused", "#at the door", "made"], rows))
 
 
-def index_page(weeks, unreadable=()):
-    """The page of all epochs: weeks in ascending order, and the names of files that couldn't be read."""
-    body = [element("h1", "Telemetry by week"), element("p", counted(len(weeks), "week"), ", the newest first.", class_="lead")]
+def index_page(weeks, unreadable=(), preview=None):
+    """The page of all epochs: weeks in ascending order, the names of files that couldn't be read with what is wrong, and the week that isn't over."""
+    body = [element("h1", "Telemetry by week"), element("p", counted(len(weeks), "week"), ", the newest first." if weeks else ".", class_="lead")]
     if unreadable:
         items = [element("li", element("b", name), ": ", why) for name, why in unreadable]
         body.append(section("Look at this first", quiet("These texts can't be read, so their weeks are missing here:"), element("ul", *items), class_="warn"))
-    if weeks:
-        values = series(weeks)
-        body += [over_time(weeks, values)] if len(weeks) > 1 else []
-        body += [weeks_beside(weeks, values)] if values else []
-        body += [list_of_weeks(weeks)]
-    else:
-        body.append(section("No week yet", quiet("The first page is made once a week is over and its late days are past.", last=True)))
+    values = series(weeks)
+    body += [over_time(weeks, values)] if len(weeks) > 1 else []
+    body += [weeks_beside(weeks, values)] if values else []
+    body += [list_of_weeks(weeks, preview)] if weeks or preview else []
+    if not weeks:
+        body.append(section("No week yet", quiet("The page of a week is made once the week is over and its late days are past.", last=True)))
     return document("Telemetry by week", *body)
