@@ -8,7 +8,6 @@ use Rattle.std.specs.BTreeMap.{BTreeMap, get, IsOrdered}
 use Rattle.std.specs.Map.{keys_of}
 use Rattle.std.proofs.lemmas.List.Elements.{All-weaker}
 use Rattle.star_io.specs.declared.record.Record.{Record}
-use Rattle.star_io.specs.declared.record.TheConstants.{MAX_RECORDS}
 use Rattle.star_lists.proofs.Elements.{filter_fewer}
 use Rattle.star_lists.proofs.Numbered.{given_push}
 use Rattle.layer_walk.specs.declared.refusal.Why.{Why}
@@ -61,10 +60,10 @@ room_at e None some most here few = λ x is. absurd (cc)
 room_at e (Some walk) some most here few = λ x is. omega (arith, here.2.taken, let same : walk ≡ x = cc in ap (λ (w : WalkView). w.taken) same)
 
 -- the walk of an epoch may take one more where the whole may
-pub room : (taken : ℕ) (m : BTreeMap ℕ WalkView) (lost : List Stray) (records : List Record) → StandsFor (record { taken = taken; walks = m.entries; strays = lost }) records
-    → taken < MAX_RECORDS → (e : ℕ) → ForSome (get nat_cmp m e) (λ walk. walk.taken < MAX_RECORDS)
-room taken m lost records stands few e =
-    room_at e (get nat_cmp m e) (part records e) MAX_RECORDS (stands_at_each records m stands.epochs_are stands.walks_are e)
+pub room : (taken most : ℕ) (m : BTreeMap ℕ WalkView) (lost : List Stray) (records : List Record) → StandsFor (record { taken = taken; walks = m.entries; strays = lost }) records
+    → taken < most → (e : ℕ) → ForSome (get nat_cmp m e) (λ walk. walk.taken < most)
+room taken most m lost records stands few e =
+    room_at e (get nat_cmp m e) (part records e) most (stands_at_each records m stands.epochs_are stands.walks_are e)
     (omega (arith, filter_fewer (λ r. is_epoch e (epoch_of r)) records, stands.taken))
 
 -- no record

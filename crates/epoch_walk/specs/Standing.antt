@@ -1,8 +1,7 @@
 -- The lists of records that a walk over many epochs stands for.
-use Rattle.std.specs.Prelude.{◌≡◌, ◌≤◌, ℕ, ◌<◌, List, Option, None, Some, [], length, All}
+use Rattle.std.specs.Prelude.{◌≡◌, ◌^◌, ℕ, ◌<◌, List, Option, None, Some, [], length, All}
 use Rattle.std.specs.Map.{keys_of}
 use Rattle.star_io.specs.declared.record.Record.{Record}
-use Rattle.star_io.specs.declared.record.TheConstants.{MAX_RECORDS}
 use Rattle.layer_walk.specs.Seen.{WalkView}
 use Rattle.layer_walk.specs.Standing as one
 use Rattle.epoch_walk.specs.Seen.{EpochWalkView}
@@ -21,11 +20,11 @@ pub record StandsFor (walk : EpochWalkView) (records : List Record) : Type 0 whe
   pub walks_are : All (StandsForPart records) walk.walks
   pub strays_are : walk.strays ≡ strays records
 
--- The walk stands for some records, and for no more than a stream may have.
+-- The walk stands for some records, and for no more than its number counts.
 pub record IsEpochWalk (walk : EpochWalkView) : Type 0 where
   pub records : List Record
   pub stands : StandsFor walk records
-  pub few : walk.taken ≤ MAX_RECORDS
+  pub few : walk.taken < 2 ^ 32
 
 -- What stands at an epoch: no walk, where it has no records, or its walk, which stands for them.
 abbrev pub StandsAt : ℕ → Option WalkView → List Record → Type 0

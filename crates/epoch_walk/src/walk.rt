@@ -1,7 +1,6 @@
 // Records of many epochs that are taken as they come, and what they tell.
-ghost use Rattle.std.specs.Prelude.{◌≡◌, ◌≤◌, ◌<◌, ◌+◌, ◌++◌, ◌∷◌, [], List, IfOk, OnOk, OnErr};
+ghost use Rattle.std.specs.Prelude.{◌≡◌, ◌≤◌, ◌<◌, ◌+◌, ◌-◌, ◌^◌, ◌++◌, ◌∷◌, [], List, IfOk, OnOk, OnErr};
 ghost use Rattle.star_io.specs.declared.record.Record.{Record};
-ghost use Rattle.star_io.specs.declared.record.TheConstants.{MAX_RECORDS};
 ghost use Rattle.recovery_pool.specs.declared.limits.TheConstants.{MAX_WORKERS};
 ghost use Rattle.epoch_walk.specs.Epochs.{epochs_told};
 ghost use Rattle.epoch_walk.specs.Standing.{StandsFor};
@@ -60,7 +59,7 @@ impl EpochWalk {
     ///
     /// The frame is decoded once to find its epoch, and once more by the walk of that epoch.
     pub fn take(&mut self, item: Record) -> Result<(), NoMemory>
-        requires { self.old.taken < MAX_RECORDS }
+        requires { self.old.taken < 2 ^ 32 - 1 }
         ensures taken { OnOk result (self.new.taken ≡ self.old.taken + 1) }
         ensures stands { OnOk result ((records : List Record) → StandsFor self.old records →
             StandsFor self.new (records ++ item ∷ [])) }

@@ -1,10 +1,9 @@
 // The walks of the epochs, in the order of their epochs.
-ghost use Rattle.std.specs.Prelude.{◌≡◌, ◌≢◌, ◌<◌, ◌++◌, ◌∷◌, [], ℕ, List, OnOk, OnErr};
+ghost use Rattle.std.specs.Prelude.{◌≡◌, ◌≢◌, ◌<◌, ◌-◌, ◌^◌, ◌++◌, ◌∷◌, [], ℕ, List, OnOk, OnErr};
 ghost use Rattle.std.specs.Ordering.{nat_cmp};
 ghost use Rattle.std.specs.Option.{ForSome};
 ghost use Rattle.std.specs.BTreeMap.{get, IsOrdered, IsUnchanged};
 ghost use Rattle.star_io.specs.declared.record.Record.{Record};
-ghost use Rattle.star_io.specs.declared.record.TheConstants.{MAX_RECORDS};
 ghost use Rattle.epoch_walk.specs.Standing.{StandsAt};
 
 use layer_walk::Walk;
@@ -20,7 +19,7 @@ pub(crate) fn hand(
     epoch: u32,
     item: Record,
 ) -> Result<(), NoMemory>
-    requires { ForSome (get nat_cmp walks.old epoch) (λ walk. walk.taken < MAX_RECORDS) }
+    requires { ForSome (get nat_cmp walks.old epoch) (λ walk. walk.taken < 2 ^ 32 - 1) }
     ensures here { OnOk result ((records : List Record) →
         StandsAt epoch (get nat_cmp walks.old epoch) records →
         StandsAt epoch (get nat_cmp walks.new epoch) (records ++ item ∷ [])) }

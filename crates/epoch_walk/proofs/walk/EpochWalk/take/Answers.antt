@@ -1,4 +1,4 @@
-use Rattle.std.proofs.Common.{◌≡◌, ◌+◌, ◌++◌, ◌∷◌, [], arith, ap, ◌∙◌, sym, subst}
+use Rattle.std.proofs.Common.{◌≡◌, ◌+◌, ◌-◌, ◌^◌, ◌++◌, ◌∷◌, [], arith, ap, ◌∙◌, sym, subst}
 use Rattle.epoch_walk.specs.Seen.{EpochWalkView}
 use Rattle.epoch_walk.specs.Standing.{StandsFor}
 use Rattle.epoch_walk.proofs.Taking.{takes_report, takes_stray, room}
@@ -9,7 +9,7 @@ pub hand-requires : goal.hand-requires
 hand-requires c =
     let s = c.self.inside in
     let count : s.taken ≡ c.args.self.now.taken = ap (λ (v : EpochWalkView). v.taken) c.self.view_is in
-    room s.taken s.walks s.strays c.self.invariant.records c.self.invariant.stands (omega (arith, count, c.requires)) c.in-Ok.epoch
+    room s.taken (2 ^ 32 - 1) s.walks s.strays c.self.invariant.records c.self.invariant.stands (omega (arith, count, c.requires)) c.in-Ok.epoch
 
 pub returns-clause-stands : goal.returns-clause-stands
 returns-clause-stands c records stands =
