@@ -1,8 +1,8 @@
 // The certificates of a list of records.
-ghost use Rattle.std.specs.Prelude.{◌≡◌, ◌≤◌, ◌++◌, length, All, IfOk};
+ghost use Rattle.std.specs.Prelude.{◌≡◌, ◌≤◌, ◌<◌, ◌^◌, ◌++◌, length, All, IfOk};
 ghost use Rattle.std.specs.List.{AllZip};
 ghost use Rattle.star_io.specs.Bytes.{AreBytes};
-ghost use Rattle.star_io.specs.declared.record.TheConstants.{MAX_RECORDS};
+ghost use Rattle.cert_audit.specs.declared.limits.TheConstants.{MAX_POINTS};
 ghost use Rattle.layer_walk.specs.Laws.{IsByteRecord, AreByteRecords};
 ghost use Rattle.layer_walk.specs.Reveal.{outer_rows, reveal_of};
 ghost use Rattle.cert_audit.specs.Certificate.{IsCert};
@@ -23,13 +23,13 @@ pub type Certs = CertList<Cert>;
 /// One certificate for each group that the reveal of the records opens for the epoch, in the order
 /// of its groups.
 pub fn certs_of(alloc: Global, records: &[Record], epoch: u32) -> Result<Certs, NoMemory>
-    requires { length records.now ≤ MAX_RECORDS }
+    requires { length records.now < 2 ^ 32 }
     ensures certs { IfOk result (λ certs. certs ≡ certs_list epoch records.now) }
     // There is one for each group of the reveal, in their order, and an audit says Yes to each.
     ensures complete { IfOk result (λ certs.
         AllZip (IsCertOf epoch (outer_rows epoch records.now)) (reveal_of epoch records.now).groups
         certs) }
-    ensures range { IfOk result (λ certs. All IsCert certs) }
+    ensures range { length records.now ≤ MAX_POINTS → IfOk result (λ certs. All IsCert certs) }
 {
     know_records(records);
     let zero = level_zero(alloc, records, epoch)?;

@@ -32,7 +32,7 @@ returns-clause-complete c =
     (returns-clause-certs c)
 
 pub returns-clause-range : goal.returns-clause-range
-returns-clause-range c =
+returns-clause-range c few =
     IfOk-weaker c.certs_alone.result (λ certs. certs ≡ certs_list c.args.epoch c.args.records.now) (All IsCert)
-    (λ certs is. subst (All IsCert) (sym is) (in_range c.args.epoch c.args.records.now c.know_records.ensures (omega (arith, c.requires))))
+    (λ certs is. subst (All IsCert) (sym is) (in_range c.args.epoch c.args.records.now c.know_records.ensures few))
     (returns-clause-certs c)

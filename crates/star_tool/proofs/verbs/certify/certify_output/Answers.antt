@@ -1,4 +1,4 @@
-use Rattle.std.proofs.Common.{ap, refl, sym, subst, Err, All}
+use Rattle.std.proofs.Common.{ap, refl, sym, subst, arith, Err, All, length}
 use Rattle.cert_audit.specs.Certificate.{IsCert}
 use Rattle.command_words.specs.declared.command.Command.TheVariants.{Certify}
 use Rattle.star_tool.specs.Seen.{seen, unseen}
@@ -14,7 +14,9 @@ returns-in_err-records-clause-reason g c =
     (λ is. stream_refused (seen g.S.Source.left g.S.Source.faults c.args.input.now c.read_records.new.input) (c.in_err-records.ensures.too_many (ap (λ e. Err e) is))))
 
 pub certs_bytes-requires : goal.certs_bytes-requires
-certs_bytes-requires g c = subst (All IsCert) (sym c.as_slice.ensures) c.in_ok-certs.ensures.range
+certs_bytes-requires g c =
+    subst (All IsCert) (sym c.as_slice.ensures)
+    (c.in_ok-certs.ensures.range (omega (arith, c.in_ok-records.ensures.few, ap length c.deref.ensures.value)))
 
 pub returns-clause-output : goal.returns-clause-output
 returns-clause-output g c = λ coins.
