@@ -22,12 +22,12 @@ def synopsis():
     return [line.replace("\\-", "-") for line in re.findall(r"^\.B star_tool (.*)$", section, re.M)]
 
 
-def completed(words):
-    """What the completion for bash offers behind these words."""
+def completed(words, begun=""):
+    """What the completion for bash offers for the word that is begun after these words."""
     script = (
-        f'source "{TOP}/examples/completion/star_tool.bash"; COMP_WORDS=("$@" ""); COMP_CWORD=$#; _star_tool; echo "${{COMPREPLY[@]}}"'
+        f'source "{TOP}/examples/completion/star_tool.bash"; COMP_WORDS=("$@"); COMP_CWORD=$(($# - 1)); _star_tool; echo "${{COMPREPLY[@]}}"'
     )
-    run = subprocess.run(["bash", "-c", script, "bash", *words], capture_output=True, text=True, check=True)
+    run = subprocess.run(["bash", "-c", script, "bash", *words, begun], capture_output=True, text=True, check=True)
     return sorted(run.stdout.split())
 
 
@@ -40,6 +40,10 @@ def main(program):
         ("the line in FORMATS", f"`{line}`" in formats),
         ("the line of the plain client", commands.USAGE.line == line),
         ("the verbs that bash completes", completed(["star_tool"]) == sorted(piece.split()[0] for piece in pieces)),
+        # bash makes a word of its own of the = in --version=2
+        ("the value that bash completes after a blank", completed(["star_tool", "make", "--version"]) == ["1", "2"]),
+        ("the value that bash completes after =", completed(["star_tool", "make", "--version"], "=") == ["1", "2"]),
+        ("the value that bash completes after = and a digit", completed(["star_tool", "make", "--version", "="], "2") == ["2"]),
     ]
     for piece in pieces:
         verb = piece.split()[0]

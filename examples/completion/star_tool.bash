@@ -15,6 +15,12 @@ _star_tool_options() {
 _star_tool() {
     local word=${COMP_WORDS[COMP_CWORD]} last=${COMP_WORDS[COMP_CWORD - 1]} option words=
     COMPREPLY=()
+    # bash splits --name=value at the =, which is then a word of its own
+    if [ "$word" = "=" ]; then
+        word=
+    elif [ "$last" = "=" ]; then
+        last=${COMP_WORDS[COMP_CWORD - 2]}
+    fi
     if [ "$COMP_CWORD" -eq 1 ]; then
         mapfile -t COMPREPLY < <(compgen -W "check reveal make gen selftest expect book merge openbook certify audit epochs" -- "$word")
         return
