@@ -1,10 +1,10 @@
 /*
  * The portable client: the calls of star_client.h for machines for which no archive is built, in plain C11. It is the proved module
- * bindings/web/star_client.wasm, whose memory binaryen lowers to 32 bits and which wabt's wasm2c turns into C. Proved is the module;
+ * bindings/web/star_client.wasm, whose memory binaryen lowers to 32 bits and which wabt's wasm2c turns into C. The module is proved;
  * what was done to it since, and the compiler, are tested.
  *
- * A call needs a room of 128 KB, in which it works and which it clears before it returns. The calls of star_client.h take one of the
- * thread that calls; the two below take the caller's, which no other call uses at the same time.
+ * A call works in a room of 128 KB, which it clears before it returns. The calls of star_client.h use one of the calling thread; the
+ * two below use the caller's, which no other call may use at the same time.
  */
 #ifndef STAR_CLIENT_PORTABLE_H
 #define STAR_CLIENT_PORTABLE_H

@@ -18,5 +18,5 @@ export function recordOf(report: Uint8Array): Uint8Array;
 
 export function hexOf(bytes: Iterable<number>): string;
 
-/** The bytes of a hexadecimal text, or null where it is none. */
+/** The bytes of a hexadecimal text, or null if it is none. */
 export function bytesOfHex(text: string): Uint8Array | null;

@@ -36,5 +36,5 @@ export function recordOf(report) {
 
 export const hexOf = (bytes) => [...bytes].map((b) => b.toString(16).padStart(2, "0")).join("");
 
-/** The bytes of a hexadecimal text, or null where it is none. */
+/** The bytes of a hexadecimal text, or null if it is none. */
 export const bytesOfHex = (text) => /^([0-9a-fA-F]{2})*$/.test(text) ? Uint8Array.from(text.match(/../g) ?? [], (x) => parseInt(x, 16)) : null;

@@ -5,9 +5,9 @@ export const TRIMMED = "\u0009\u000a\u000b\u000c\u000d\u001c\u001d\u001e\u001f\u
   + "\u2009\u200a\u2028\u2029\u202f\u205f\u3000\ufeff";
 
 /**
- * The text without the characters of TRIMMED at its ends, in NFC, and where asked in lower case.
+ * The text without the characters of TRIMMED at its ends, in NFC, and in lower case if asked for.
  * Lower case is Unicode's full mapping with its rule for the final sigma, and NFC again after it. A character that a version of Unicode
- * brings or changes may differ where another version is known.
+ * brings or changes may differ if another version is known.
  */
 export function normalized(text, { lower = false } = {}) {
   let from = 0, to = text.length;

@@ -23,7 +23,7 @@ export class ClientError extends Error {
   readonly status: Status;
 }
 
-/** Bytes, each from 0 to 255, or a text that stands for its bytes in UTF-8. */
+/** Bytes, each from 0 to 255, or a text that is encoded as UTF-8. */
 export type Bytes = string | Uint8Array | readonly number[];
 
 /** What the layers of a report are. What is beyond a limit is a ClientError. */
@@ -38,7 +38,7 @@ export interface Layers {
 export interface Content extends Layers {
   /** One value of 1 to 64 bytes for each threshold. */
   values: readonly Bytes[];
-  /** What the aggregator learns where it learns the last value: up to 255 bytes in version 2, none in version 1. */
+  /** What the aggregator learns if it learns the last value: up to 255 bytes in version 2, none in version 1. */
   extra?: Bytes;
 }
 
@@ -46,9 +46,9 @@ export interface Content extends Layers {
 export interface Request extends Content {
   /** From 0 to 4294967295, else a RangeError: only reports of one epoch are counted together. */
   epoch: number;
-  /** 32 bytes. Drawn for this report where it is left out, which is what a client that stands alone wants. */
+  /** 32 bytes. Drawn for this report if it is left out, which is what a client that makes one report wants. */
   seed?: Bytes;
-  /** From 0 to 4294967295, else a RangeError: 0 where the seed is drawn. A seed and a number make one report, ever. */
+  /** From 0 to 4294967295, else a RangeError: 0 if the seed is drawn. A seed and a number make one report, ever. */
   client?: number;
 }
 
@@ -56,7 +56,7 @@ export interface Request extends Content {
 export interface Requests extends Layers {
   /** A row of values for each report. */
   rows: Iterable<readonly Bytes[]>;
-  /** The extra bytes of each row, where the reports have some. */
+  /** The extra bytes of each row, if the reports have some. */
   extras?: Iterable<Bytes>;
   /** As in a request. */
   epoch: number;
@@ -65,7 +65,7 @@ export interface Requests extends Layers {
 }
 
 export interface Client {
-  /** The report behind its length of four bytes, as it stands in a stream: records joined are one. */
+  /** The report after its length of four bytes, as it is in a stream: records joined are one. */
   record(request: Request): Uint8Array;
   /** The bytes of a report alone. */
   report(request: Request): Uint8Array;
@@ -76,7 +76,7 @@ export interface Client {
 }
 
 /**
- * The client of the module beside this file: star_client.wasm, or star_client_32.wasm where the engine has no 64-bit memory.
+ * The client of the module beside this file: star_client.wasm, or star_client_32.wasm if the engine has no 64-bit memory.
  * Handed bytes of a module, or a response of them as of `fetch`, it takes those.
  */
 export function load(source?: BufferSource | Response | Promise<BufferSource | Response>): Promise<Client>;
@@ -87,5 +87,5 @@ export function moduleAddress(): URL;
 /** What `normalized` trims: Unicode's White_Space, U+001C to U+001F, and U+FEFF. */
 export const TRIMMED: string;
 
-/** The text without the characters of TRIMMED at its ends, in NFC, and where asked in lower case. */
+/** The text without the characters of TRIMMED at its ends, in NFC, and in lower case if asked for. */
 export function normalized(text: string, options?: { lower?: boolean }): string;

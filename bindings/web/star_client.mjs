@@ -1,5 +1,5 @@
 // The client of Nested STAR in a page or in Node: one report of one client, by the proved module star_client.wasm.
-// The module imports nothing, so it can reach neither the network nor the page. docs/CLIENTS.md of the repository says what a client sees to.
+// The module imports nothing, so it can reach neither the network nor the page. docs/CLIENTS.md of the repository says what a client must ensure.
 
 export { normalized, TRIMMED } from "./normal.mjs";
 
@@ -51,7 +51,7 @@ async function moduleHere() {
 }
 
 /**
- * The client of the module beside this file: star_client.wasm, or star_client_32.wasm where the engine has no 64-bit memory.
+ * The client of the module beside this file: star_client.wasm, or star_client_32.wasm if the engine has no 64-bit memory.
  * Handed bytes of a module, or a response of them, it takes those.
  * A good request always gives its report, so that the client serves for as many as the page makes.
  */
@@ -77,7 +77,7 @@ class Client {
     this.#at = { thresholds: base, written: base + 64, extra: base + 128, cells: base + 512, seed: base + 2048, out: base + 2176 };
   }
 
-  /** The report behind its length, as it stands in a stream: records joined are one. The arguments are those of `report`. */
+  /** The report after its length, as it is in a stream: records joined are one. The arguments are those of `report`. */
   record(request) {
     return this.#one(request, 4);
   }
@@ -118,7 +118,7 @@ class Client {
     return this.#written();
   }
 
-  // One report behind so many bytes: none, or the four of its length.
+  // One report after so many bytes: none, or the four of its length.
   #one({ values, extra = [], epoch, client = 0, seed, ...request }, front) {
     const layers = layersOf(request);
     number("epoch", epoch);
@@ -128,7 +128,7 @@ class Client {
     return this.#made.slice(0, this.#make(layers, cellsOf(layers, values), extraOf(layers, extra), epoch, client, drawn, this.#made, 0, front));
   }
 
-  // Makes a report, writes it behind so many bytes into the target from the place on, and says how many bytes both are.
+  // Makes a report, writes it after so many bytes into the target from the place on, and returns how many bytes both are.
   #make(layers, cells, extra, epoch, client, seed, target, place, front) {
     const { out, written, seed: at } = this.#at;
     const what = this.#put(layers, cells, extra);
@@ -143,7 +143,7 @@ class Client {
     return front + length;
   }
 
-  // Puts the arguments of both calls into the module's memory, and says where they are.
+  // Puts the arguments of both calls into the module's memory, and returns where they are.
   #put({ version, thresholds }, cells, extra) {
     const at = this.#at, view = new DataView(this.#exports.memory.buffer), memory = new Uint8Array(this.#exports.memory.buffer);
     thresholds.forEach((k, i) => view.setUint16(at.thresholds + 2 * i, k, true));
@@ -191,7 +191,7 @@ function layersOf({ version = 1, thresholds }) {
   return { version, thresholds: ks };
 }
 
-// Each value behind a byte that counts its bytes.
+// Each value after a byte with its length.
 function cellsOf({ thresholds }, values) {
   const texts = listOf("values", values).map((value, i) => bytesOf(`values[${i}]`, value));
   if (texts.length !== thresholds.length) fail(3, `values has ${texts.length} items; thresholds has ${thresholds.length}, and each needs one`);

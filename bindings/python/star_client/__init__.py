@@ -5,8 +5,8 @@
     client = Client()
     record = client.record(["Germany", "Berlin"], [20, 10], epoch=1)
 
-A record is a report behind its length; records joined are a stream, which `star_tool reveal` reads. Each
-report has a seed of its own unless one is given. docs/CLIENTS.md of the repository says what a client sees to.
+A record is a report after its length; records joined are a stream, which `star_tool reveal` reads. Each
+report has a seed of its own unless one is given. docs/CLIENTS.md of the repository says what a client must ensure.
 """
 from __future__ import annotations
 
@@ -39,7 +39,7 @@ MAX_REPORT = 3487
 #: The most bytes of a record.
 MAX_RECORD = 4 + MAX_REPORT
 
-#: Bytes, or a text that stands for its bytes in UTF-8.
+#: Bytes, or a text that is encoded as UTF-8.
 Bytes = Union[bytes, bytearray, memoryview, str]
 
 
@@ -100,14 +100,14 @@ class Client:
 
     def record(self, values: Sequence[Bytes], thresholds: Sequence[int], epoch: int, *, version: int = 1, extra: Bytes = b"",
                seed: Optional[Bytes] = None, client: int = 0) -> bytes:
-        """The report of the values behind its length, as it stands in a stream: records joined are one.
+        """The report of the values after its length, as it is in a stream: records joined are one.
 
-        values      one for each threshold, of 1 to 64 bytes; a text stands for its bytes in UTF-8
+        values      one for each threshold, of 1 to 64 bytes; a text is encoded as UTF-8
         thresholds  from how many reports on the aggregator may learn that value: 1 to 8 numbers from 2 to 512,
                     in version 2 1 to 16 numbers from 2 to 4096
         epoch       from 0 to 4294967295: only reports of one epoch are counted together
         version     1 or 2
-        extra       what the aggregator learns where it learns the last value: up to 255 bytes, none in version 1
+        extra       what the aggregator learns if it learns the last value: up to 255 bytes, none in version 1
         seed        32 bytes; without one it is drawn for this report alone, which is what a client wants
         client      from 0 to 4294967295; one seed and number make one report, ever
 
@@ -133,7 +133,7 @@ class Client:
                 extras: Optional[Iterable[Bytes]] = None, progress: Optional[Callable[[int], Any]] = None, every: int = 1000) -> bytes:
         """A stream: a record for each row of values, each with a seed of its own.
 
-        extras      one for each row, where the reports have extra bytes (version 2)
+        extras      one for each row, if the reports have extra bytes (version 2)
         progress    is called with the number of records made, after each `every` of them and at the end
 
         A fault names its row, and then there is no stream.
@@ -195,7 +195,7 @@ class _Layers:
         self.array = (ctypes.c_uint16 * len(numbers))(*numbers)
 
     def cells(self, values: Sequence[Bytes]) -> bytes:
-        """Each value behind a byte that counts its bytes."""
+        """Each value after a byte with its length."""
         texts = [_bytes("values[%d]" % i, value) for i, value in enumerate(_items("values", values))]
         if len(texts) != self.count:
             raise BadValues("values has %d items; thresholds has %d, and each needs one" % (len(texts), self.count))

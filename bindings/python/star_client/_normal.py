@@ -7,10 +7,10 @@ TRIMMED = ("\u0009\u000a\u000b\u000c\u000d\u001c\u001d\u001e\u001f\u0020\u0085\u
 
 
 def normalized(text: str, *, lower: bool = False) -> str:
-    """The text without the characters of TRIMMED at its ends, in NFC, and where asked in lower case.
+    """The text without the characters of TRIMMED at its ends, in NFC, and in lower case if asked for.
 
     Lower case is Unicode's full mapping with its rule for the final sigma, and NFC again after it. A character that a
-    version of Unicode brings or changes may differ where another version is known.
+    version of Unicode brings or changes may differ if another version is known.
     """
     normal = unicodedata.normalize("NFC", text.strip(TRIMMED))
     return unicodedata.normalize("NFC", normal.lower()) if lower else normal

@@ -2,17 +2,17 @@
  * The client of Nested STAR: it makes one report in the caller's buffer.
  *
  * Both functions are proved in crates/star_client_c (src/lib.rt): with good arguments and room they always give the report, whose
- * bytes are those that docs/FORMATS.md describes, and after a fault nothing is written. They take no memory, keep no state, call
- * nothing of the system, and may be called by many threads at once: so they are made, and no clause says it. A call needs less than
- * 20 KB of stack, which is measured and not proved.
+ * bytes are those that docs/FORMATS.md describes, and after a fault nothing is written. They allocate no memory, keep no state, call
+ * nothing of the system, and may be called by many threads at once; this follows from how they are written, not from a proved clause.
+ * A call needs less than 20 KB of stack, which is measured and not proved.
  *
- * What the proof takes for granted, and the caller sees to:
- *  - no pointer is null, also where a length is 0;
+ * What the proof takes for granted, and the caller must ensure:
+ *  - no pointer is null, even if a length is 0;
  *  - each pointer is that of as many items as its length says; `thresholds` lies at an even address and `written` at one that
  *    its type allows, as C's own arrays and variables do;
  *  - `out` and `written` overlap nothing else that is passed.
  *
- * What a client sees to, says docs/CLIENTS.md. Above all: one seed and client number make one report, ever.
+ * docs/CLIENTS.md says what a client must ensure. Above all: one seed and client number make one report, ever.
  */
 #ifndef STAR_CLIENT_H
 #define STAR_CLIENT_H
@@ -24,9 +24,9 @@
 extern "C" {
 #endif
 
-/* What a call answers. Faults are looked for in this order, and the first is told. */
+/* What a call returns. Faults are looked for in this order, and the first is returned. */
 enum star_client_status {
-    STAR_CLIENT_DONE = 0,           /* what was asked for is written */
+    STAR_CLIENT_DONE = 0,           /* the report or its length is written */
     STAR_CLIENT_BAD_VERSION = 1,    /* the version is neither 1 nor 2 */
     STAR_CLIENT_BAD_THRESHOLDS = 2, /* not 1 to 8 numbers from 2 to 512, or in version 2 not 1 to 16 from 2 to 4096 */
     STAR_CLIENT_BAD_VALUES = 3,     /* the cells are not those of one value of 1 to 64 bytes for each threshold */
@@ -38,7 +38,7 @@ enum star_client_status {
 #define STAR_CLIENT_SEED_BYTES 32
 #define STAR_CLIENT_MAX_CELLS 1040   /* bytes: the cells of 16 values of 64 bytes */
 #define STAR_CLIENT_MAX_REPORT 3487  /* bytes: no report is longer; in version 1 none is longer than 1616 */
-#define STAR_CLIENT_MAX_RECORD 3491  /* bytes: a report behind its length */
+#define STAR_CLIENT_MAX_RECORD 3491  /* bytes: a report after its length */
 
 /*
  * Writes the report into the front of `out`, and its length into `*written`.
@@ -47,17 +47,17 @@ enum star_client_status {
  *  cells              for each value one byte, how many bytes it has (1 to 64), and then these bytes
  *  cells_length       bytes of cells, from 2 to 65 for each threshold; cells that aren't those of as many values as there are
  *                     thresholds, up to the last byte, are STAR_CLIENT_BAD_VALUES
- *  thresholds         one number for each value, reports: from how many with this value on the aggregator may learn it. From 2 to 512,
+ *  thresholds         for each value, how many reports must have it before the aggregator may learn it. From 2 to 512,
  *                     in version 2 from 2 to 4096; anything else is STAR_CLIENT_BAD_THRESHOLDS
  *  thresholds_length  numbers, not bytes: from 1 to 8, in version 2 from 1 to 16; anything else is STAR_CLIENT_BAD_THRESHOLDS
- *  extra              what the aggregator learns where it learns the last value
+ *  extra              what the aggregator learns if it learns the last value
  *  extra_length       bytes: 0 in version 1, from 0 to 255 in version 2; more is STAR_CLIENT_BAD_EXTRA
  *  epoch              any number of 32 bits: only reports of one epoch are counted together
  *  seed               bytes of which nobody knows anything
  *  seed_length        bytes: 32; anything else is STAR_CLIENT_BAD_SEED
  *  client             any number of 32 bits, such as 0; several reports from one seed need different ones
  *  out                room for the report
- *  out_length         bytes of room; less than the report is long is STAR_CLIENT_SMALL_BUFFER, and more stays as it is
+ *  out_length         bytes of room; less than the report is long is STAR_CLIENT_SMALL_BUFFER; bytes after the report stay as they were
  *  written            receives the length of the report in bytes
  *
  * Anything but STAR_CLIENT_DONE leaves `out` and `*written` as they were.
@@ -68,23 +68,23 @@ uint32_t star_client_report(uint32_t version, const uint8_t *cells, size_t cells
                             size_t *written);
 
 /*
- * Writes into `*written` how many bytes that report will have: 137 for each threshold, and as many as there are cells and extra bytes.
- * The faults are those of the report but for seed and room; after one, `*written` is as it was.
+ * Writes into `*written` how many bytes that report will have: 137 for each threshold, plus the bytes of cells and extra.
+ * The faults are those of the report except for seed and room; after one, `*written` is as it was.
  */
 uint32_t star_client_length(uint32_t version, const uint8_t *cells, size_t cells_length, const uint16_t *thresholds,
                             size_t thresholds_length, const uint8_t *extra, size_t extra_length, size_t *written);
 
 /*
  * Writes a record into the front of `out`: the length of the report in four bytes, most significant first, and the report. Records one
- * behind the other are a stream, which `star_tool reveal` reads. The arguments are those of star_client_report, but that `out_length`
- * and `*written` count the four bytes too; the answers are the same, and after a fault `out` and `*written` are as they were.
+ * after the other are a stream, which `star_tool reveal` reads. The arguments are those of star_client_report, but `out_length` and
+ * `*written` count the four bytes too; the statuses are the same, and after a fault `out` and `*written` are as they were.
  * This helper is tested and not proved.
  */
 static inline uint32_t star_client_record(uint32_t version, const uint8_t *cells, size_t cells_length, const uint16_t *thresholds,
                                           size_t thresholds_length, const uint8_t *extra, size_t extra_length, uint32_t epoch,
                                           const uint8_t *seed, size_t seed_length, uint32_t client, uint8_t *out, size_t out_length,
                                           size_t *written) {
-    /* With less than four bytes of room no report fits, so that the answer is a fault and nothing is written. */
+    /* With less than four bytes of room no report fits, so the status is a fault and nothing is written. */
     const size_t front = out_length < 4 ? out_length : 4;
     size_t length = 0;
     const uint32_t status = star_client_report(version, cells, cells_length, thresholds, thresholds_length, extra, extra_length, epoch, seed,
@@ -95,7 +95,7 @@ static inline uint32_t star_client_record(uint32_t version, const uint8_t *cells
     return STAR_CLIENT_DONE;
 }
 
-/* What a status says: the argument and its limit. Any other number is told as unknown. */
+/* The text of a status: the argument and its limit. Any other number is "unknown status". */
 static inline const char *star_client_status_text(uint32_t status) {
     switch (status) {
     case STAR_CLIENT_DONE: return "done";

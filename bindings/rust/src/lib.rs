@@ -1,7 +1,7 @@
 //! The client of Nested STAR: one report of one client, by the proved static library.
 //!
 //! One seed and client number make one report, ever: draw the seed afresh for each report, from the
-//! system's source of random bytes. docs/CLIENTS.md of the repository says what else a client sees to.
+//! system's source of random bytes. docs/CLIENTS.md of the repository says what else a client must ensure.
 //!
 //! ```
 //! use star_client::{Request, Version, record};
@@ -165,7 +165,7 @@ pub struct Request<'a> {
     /// From how many reports on the aggregator may learn each value: 1 to 8 numbers from 2 to 512,
     /// in version 2 1 to 16 numbers from 2 to 4096.
     pub thresholds: &'a [u16],
-    /// What the aggregator learns where it learns the last value: up to 255 bytes in version 2, none
+    /// What the aggregator learns if it learns the last value: up to 255 bytes in version 2, none
     /// in version 1.
     pub extra: &'a [u8],
     /// Only reports of one epoch are counted together.
@@ -202,7 +202,7 @@ impl Request<'_> {
     }
 }
 
-/// The report behind its length, as it stands in a stream: records joined are one. The seed and the
+/// The report after its length, as it is in a stream: records joined are one. The seed and the
 /// client number are never to be used again.
 pub fn record(request: &Request, seed: &[u8; SEED_BYTES], client: u32) -> Result<Vec<u8>, Fault> {
     let mut record = vec![0; 4 + length(request)?];
