@@ -95,15 +95,20 @@ def longest(rng, count):
 
 # ---- streams that `make` makes
 
-def nested(program, count, path):
+def nested(program, count, path, digits=1, extra=b""):
     """Reports of 16 layers for threshold 2, of which two and two name the same values: each pair opens at each level."""
     with open(path, "wb") as out:
         for part in range(0, count, 65536):
             rows = range(part, min(count, part + 65536))
-            table = b"".join(b",".join([b"%x" % (i // 2)] * 16) + b",\n" for i in rows)
+            table = b"".join(b",".join([b"%0*x" % (digits, i // 2)] * 16) + b"," + extra + b"\n" for i in rows)
             seed = "--seed=%064x" % part
             words = [program, "make", "--epoch", str(EPOCH), "--version", "2", "--thresholds", ",".join(["2"] * 16), seed]
             subprocess.run(words, input=table, stdout=out, check=True)
+
+
+def nested_long(program, count, path):
+    """The same with values of 64 bytes and 255 extra bytes: no report is longer."""
+    nested(program, count, path, 64, b"e" * 255)
 
 
 def one_value(program, count, path):
@@ -116,11 +121,12 @@ def one_value(program, count, path):
 
 
 # A stream: its name, and what writes it.
-STREAMS = [no_line, no_line_of_512, no_third_line, lone_rows, pairs, equal_points, two_values, just_enough, more_than_enough, longest, nested, one_value]
+STREAMS = [no_line, no_line_of_512, no_third_line, lone_rows, pairs, equal_points, two_values, just_enough, more_than_enough, longest, nested,
+           nested_long, one_value]
 
 
 def write(stream, program, count, path):
-    if stream in (nested, one_value):
+    if stream in (nested, nested_long, one_value):
         stream(program, count, path)
         return
     with open(path, "wb") as out:
