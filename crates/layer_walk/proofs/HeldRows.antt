@@ -126,15 +126,23 @@ pub record OpenedOn (e l : ℕ) (rows : List Row) (row : Row) (path : List Step)
   pub opened : outcome_at e l rows row ≡ Opened value agree
   pub path_is : path ≡ path_with row value
 
-pub told_from : (e l : ℕ) (rows : List Row) (row : Row) (group : OpenedGroup) → opened_row e l rows row ≡ Some group → OpenedOn e l rows row group.path
+pub told_from : (e l : ℕ) (rows : List Row) (row : Row) (group : OpenedGroup) → opened_row e l rows row ≡ Some group
+    → OpenedOn e l rows row group.path
 told_from e l rows row group h =
     let told : List ℕ → ℕ → OpenedGroup =
-    λ value agree. record { path = path_with row value; points = length (points_left rows row); agree = agree; members = length (members rows row) } in
+    λ value agree. record {
+      path = path_with row value;
+      points = length (points_left rows row);
+      agree = agree;
+      members =
+          length (members rows row);
+    } in
     let o = opened_to (λ value agree. Some (told value agree)) (outcome_at e l rows row) group h in
     let same = same_Some (told o.value o.agree) group o.gives in
     record { value = o.value; agree = o.agree; opened = o.opened; path_is = sym (ap (λ (g : OpenedGroup). g.path) same) }
 
-pub child_from : (e l : ℕ) (rows : List Row) (row : Row) (child : Parent) → child_row e l rows row ≡ Some child → OpenedOn e l rows row child.path
+pub child_from : (e l : ℕ) (rows : List Row) (row : Row) (child : Parent) → child_row e l rows row ≡ Some child
+    → OpenedOn e l rows row child.path
 child_from e l rows row child h =
     let o = opened_to (λ value agree. Some (child_of row value)) (outcome_at e l rows row) child h in
     let same = same_Some (child_of row o.value) child o.gives in

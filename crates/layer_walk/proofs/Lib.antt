@@ -26,7 +26,6 @@ pub mod Pairs
 pub mod Paths
 pub mod Next
 pub mod Telling
-pub mod Holding
 pub mod Firsts
 pub mod SoFar
 pub mod Orders

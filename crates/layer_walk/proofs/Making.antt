@@ -1,21 +1,21 @@
 -- What each group of a level gives is what its members give, row by row.
-use Rattle.std.proofs.Common.{◌≡◌, ◌≢◌, ℕ, ◌+◌, ◌<◌, true, false, cond, not, List, [], ◌∷◌, ◌++◌, Option, None, Some, length, refl, sym, ap, ◌∙◌, subst, map, filter, arith, All, AllPairs, append_assoc, append-nil, length-append, get_or}
+use Rattle.std.proofs.Common.{◌≡◌, ◌≤◌, ◌≢◌, ℕ, ◌+◌, ◌<◌, true, false, cond, not, List, [], ◌∷◌, ◌++◌, Option, Some, length, refl, sym, ap, ◌∙◌, subst, map, filter, arith, All, AllPairs, length-append, get_or}
 use Rattle.std.specs.Prelude.{slice_get}
-use Rattle.std.specs.List.{flat_map, filter_map, cons_option, AllZip, AllByRecursion}
+use Rattle.std.specs.List.{filter_map, cons_option, AllZip, AllByRecursion}
 use Rattle.std.specs.List.Sorted.{IsPermutation, IsSorted, IsStrictlySortedBy}
 use Rattle.std.specs.Option.{option_map}
 use Rattle.std.specs.Ordering.{nat_cmp, is_lt}
 use Rattle.std.specs.declared.cmp.Ordering.TheVariants.{Less}
-use Rattle.std.proofs.lemmas.List.{get_or-map, length-map, map-append, map-id}
-use Rattle.std.proofs.lemmas.List.Elements.{All-head, All-tail, All-filter, filter_passes}
+use Rattle.std.proofs.lemmas.List.{get_or-map, get_or_append_left, length-map, map-append, map-id}
+use Rattle.std.proofs.lemmas.List.Elements.{All-head, All-tail, All-nil, All-append, All-map, All-weaker, All-filter, filter_map-append, filter_passes}
 use Rattle.std.proofs.lemmas.List.Sorted.{IsPermutation-map}
 use Rattle.std.proofs.lemmas.Simd.{map-map}
-use Rattle.std.proofs.lemmas.List.Folds.{flat_map-map}
 use Rattle.report_frame.specs.Reading.{fields_from}
 use Rattle.adss_commit.specs.Derivation.{context_key}
 use Rattle.star_lists.specs.FirstOnes.{first_ones}
+use Rattle.star_lists.proofs.Elements.{filter_map_fewer}
 use Rattle.star_lists.proofs.Places.{elements_at_places}
-use Rattle.star_lists.proofs.Mapped.{filter_map-within, map-filter_map, filter_map-none, All-first_ones}
+use Rattle.star_lists.proofs.Mapped.{flat_map-push, filter_map-within, map-filter_map, filter_map-none, All-first_ones}
 use Rattle.tag_groups.specs.RowView.{RowView}
 use Rattle.tag_groups.specs.GroupView.{GroupView}
 use Rattle.tag_groups.specs.Keys.{same_key}
@@ -27,19 +27,21 @@ use Rattle.layer_walk.specs.declared.group.GroupOut.{GroupOut}
 use Rattle.layer_walk.specs.declared.keys.Keys.{Keys}
 use Rattle.layer_walk.specs.declared.level.Level.{Level}
 use Rattle.layer_walk.specs.declared.level.Parent.{Parent}
-use Rattle.layer_walk.specs.declared.outcome.Outcome.{Outcome}
 use Rattle.layer_walk.specs.declared.outcome.Outcome.TheVariants.{Opened, Few, NoLine, BadValue}
 use Rattle.layer_walk.specs.declared.refusal.Refusal.{Refusal}
-use Rattle.layer_walk.specs.declared.refusal.Stage.TheVariants.{Layer}
 use Rattle.layer_walk.specs.Rows.{Row, same_group, members, first_members, points_left}
 use Rattle.layer_walk.specs.Outcomes.{outcome_of, outcome_at}
 use Rattle.layer_walk.specs.Members.{Next, keys_of, next_with, next_at, context_at}
-use Rattle.layer_walk.specs.Members.Next.{Refused, Last, Inner}
 use Rattle.layer_walk.specs.Bodies.{refusal_in, aux_in}
-use Rattle.layer_walk.specs.Levels.{where_opened, stepped, under, child_of, child_row, parents_at, next_row, next_rows, refusals_at, aux_at}
+use Rattle.layer_walk.specs.Levels.{where_opened, stepped, under, child_of, child_row, by_groups, next_row, next_rows, refused_row, refusals_at, aux_row, aux_at}
 use Rattle.layer_walk.specs.Outs.{IsOut, parent_at, group_members, group_points, group_check, group_keys, group_outcome, of_opened, of_group, inner_under, refusal_under, aux_under}
-use Rattle.layer_walk.specs.Made.{named_row, named, row_cmp, AreOuts, IsLevel, group_child}
-use Rattle.layer_walk.specs.Kept.{adopt, next_number, kept_from}
+use Rattle.layer_walk.specs.Made.{of_level, named_row, named, row_cmp, AreOuts, IsLevel, group_child}
+use Rattle.layer_walk.specs.Kept.{adopt, child_under, AreChildren, AdoptsMore, IsHeld, HoldsMore}
+use Rattle.layer_walk.specs.declared.held.Children.{Children}
+use Rattle.layer_walk.specs.declared.held.Held.{Held}
+use Rattle.layer_walk.specs.Seen.{InnerView}
+use Rattle.layer_walk.specs.Reveal.{no_parent}
+use Rattle.layer_walk.proofs.HeldRows.{next_from, refused_from, aux_from}
 use Rattle.layer_walk.proofs.Numbers.{members_named, same_named}
 use Rattle.layer_walk.proofs.NextRows.{same_outcome, sorted_groups}
 
@@ -75,7 +77,7 @@ module _ (level : Level) (good : IsLevel level) (first : RowView) (inside : firs
   pub named_members : members (named level) (N first) ≡ map N mem
   named_members = members_named level.parents good.distinct first level.rows inside good.parents
 
-  pub member_outcome : (r : RowView) → IsMember r → outcome_at level.epoch level.number (named level) (N r) ≡ outcome_at level.epoch level.number (named level) (N first)
+  pub member_outcome : (r : RowView) → IsMember r → of_level level outcome_at (N r) ≡ of_level level outcome_at (N first)
   member_outcome r h = sym (same_outcome level.epoch level.number (named level) (N first) (N r) (same_named level.parents good.distinct first r inside h.1 ∙ h.0))
 
   pub member_keys : (r : RowView) → IsMember r → (value : List ℕ) → keys_of r.report.version level.epoch level.number (context_key (context_at level.epoch level.number (N r) value)) ≡ group_keys level group value
@@ -97,7 +99,7 @@ module _ (level : Level) (good : IsLevel level) (first : RowView) (inside : firs
       ∙ ap (map (λ (r : Row). point_of r.frame)) (sym named_members)
       )
 
-  pub outcome_is : group_outcome level group ≡ outcome_at level.epoch level.number (named level) (N first)
+  pub outcome_is : group_outcome level group ≡ of_level level outcome_at (N first)
   unfolding outcome_at
   outcome_is = ap (outcome_of level.epoch level.number (group_check level group) group.head) same_points
 
@@ -107,10 +109,12 @@ module _ (level : Level) (good : IsLevel level) (first : RowView) (inside : firs
     abbrev pub made_by : List ℕ → RowView → Option X
     made_by value r = h (N r) value (next_with (group_keys level group value) r.report)
 
-    pub per_group : filter_map (row_by level.epoch level.number (named level) h) (members (named level) (N first)) ≡ of_opened (λ value. filter_map (made_by value) mem) (group_outcome level group)
+    pub per_group : filter_map (of_level level row_by h) (members (named level) (N first))
+        ≡ of_opened (λ value. filter_map (made_by value) mem) (group_outcome level group)
     per_group =
-        ap (filter_map (row_by level.epoch level.number (named level) h)) named_members
-        ∙ filter_map-within IsMember (row_by level.epoch level.number (named level) h) N (λ r. where_opened (λ value agree. made_by value r) (group_outcome level group))
+        ap (filter_map (of_level level row_by h)) named_members
+        ∙ filter_map-within IsMember (of_level level row_by h) N (λ r. where_opened (λ value agree. made_by value r)
+        (group_outcome level group))
         (λ r m. λ i. where_opened (λ value agree. h (N r) value (next_with (member_keys r m value i) r.report)) ((member_outcome r m ∙ sym outcome_is) i))
         mem all_members
         ∙ elim (group_outcome level group) as (λ o. filter_map (λ r. where_opened (λ value agree. made_by value r) o) mem ≡ of_opened (λ value. filter_map (made_by value) mem) o) [
@@ -121,14 +125,20 @@ module _ (level : Level) (good : IsLevel level) (first : RowView) (inside : firs
         ]
 
     -- what opening the group gives, where f says of the keys what h says of the row
-    pub group_gives : (f : Keys → RowView → Option X) → ((value : List ℕ) (r : RowView) → f (group_keys level group value) r ≡ made_by value r) → of_group f level group ≡ filter_map (row_by level.epoch level.number (named level) h) (members (named level) (N first))
+    pub group_gives : (f : Keys → RowView → Option X)
+        → ((value : List ℕ) (r : RowView) → f (group_keys level group value) r ≡ made_by value r)
+        → of_group f level group ≡ filter_map (of_level level row_by h) (members (named level) (N first))
     group_gives f same =
         ap (λ ms. of_opened (λ value. filter_map (f (group_keys level group value)) ms) (group_outcome level group)) at_places
         ∙ (λ i. of_opened (λ value. filter_map (λ r. same value r i) mem) (group_outcome level group))
         ∙ sym per_group
 
   -- the rows of the next level, under the parent of this number
-  pub rows_given : (n : ℕ) (parents : List Parent) → ((value : List ℕ) (agree : ℕ) → group_outcome level group ≡ Opened value agree → parent_at parents n ≡ group_child level group value) → map (named_row parents) (map (adopt n) (of_group inner_under level group)) ≡ filter_map (next_row level.epoch level.number (named level)) (members (named level) (N first))
+  pub rows_given : (n : ℕ) (parents : List Parent)
+      → ((value : List ℕ) (agree : ℕ) → group_outcome level group ≡ Opened value agree
+      → parent_at parents n ≡ group_child level group value)
+      → map (named_row parents) (map (adopt n) (of_group inner_under level group))
+      ≡ filter_map (of_level level next_row) (members (named level) (N first))
   rows_given n parents child =
       ap (λ ms. map (named_row parents) (map (adopt n) (of_opened (λ value. filter_map (inner_under (group_keys level group value)) ms) (group_outcome level group)))) at_places
       ∙ elim (group_outcome level group) as (λ o. group_outcome level group ≡ o → map (named_row parents) (map (adopt n) (of_opened (λ value. filter_map (inner_under (group_keys level group value)) mem) o)) ≡ of_opened (λ value. filter_map (made_by stepped value) mem) o) [
@@ -144,68 +154,98 @@ module _ (level : Level) (good : IsLevel level) (first : RowView) (inside : firs
       ] refl
       ∙ sym (per_group stepped)
 
--- what the groups of these first members make
-abbrev pub from_groups : {X : Type 0} → Level → (Row → Option X) → List RowView → List X
-from_groups level f firsts = flat_map (λ first. filter_map f (members (named level) (named_row level.parents first))) firsts
-
--- the number of the next parent is how many parents there are
-pub counted_on : (row : Row) (front : List Parent) (o : Outcome)
-    → next_number (length front) o ≡ length (front ++ cons_option (where_opened (λ value agree. Some (child_of row value)) o) [])
-counted_on row front (Opened value agree) = sym (length-append front (child_of row value ∷ []))
-counted_on row front Few = ap length (sym (append-nil front))
-counted_on row front NoLine = ap length (sym (append-nil front))
-counted_on row front BadValue = ap length (sym (append-nil front))
-
 parent_middle : (front : List Parent) (p : Parent) (rest : List Parent) → parent_at (front ++ p ∷ rest) (length front) ≡ p
 parent_middle [] p rest = refl
 parent_middle (q ∷ front) p rest = parent_middle front p rest
 
-pub joined_on : {X : Type 0} (front later : List X) (o : Option X) → front ++ cons_option o later ≡ (front ++ cons_option o []) ++ later
-joined_on front later None = ap (λ l. l ++ later) (sym (append-nil front))
-joined_on front later (Some x) = sym (append_assoc front (x ∷ []) later)
+-- functions that agree where P holds
+map_within : {X Y : Type 0} (P : X → Type 0) (f g : X → Y) → ((x : X) → P x → f x ≡ g x) → (xs : List X) → All P xs → map f xs ≡ map g xs
+map_within P f g same [] all = refl
+map_within P f g same (x ∷ xs) all = λ i. same x (All-head P x xs all) i ∷ map_within P f g same xs (All-tail P x xs all) i
 
--- what the rows of these first members give as parents
-abbrev pub children : Level → List RowView → List Parent
-children level firsts = filter_map (child_row level.epoch level.number (named level)) (map (named_row level.parents) firsts)
+-- what is refused of a row that holds this, and its extra bytes
+abbrev pub refused_by : ℕ → Row → List ℕ → Next → Option Refusal
+refused_by l row value next = refusal_in l row.index next
 
--- the rows that all groups make, named
-pub made_named : (level : Level) → IsLevel level → (firsts : List RowView) → All (HasParent level) firsts → (outs : List GroupOut)
-    → AllZip (IsOut level) (map (group_of level.rows) firsts) outs → (front all : List Parent) → all ≡ front ++ children level firsts
-    → map (named_row all) (kept_from (length front) outs) ≡ from_groups level (next_row level.epoch level.number (named level)) firsts
-made_named level good [] inside [] zip front all e = refl
-made_named level good [] inside (o ∷ os) zip front all e = absurd zip
-made_named level good (f ∷ fs) inside [] zip front all e = absurd zip
-made_named level good (f ∷ fs) inside (o ∷ os) zip front all e =
-    let g = group_of level.rows f in
-    let F = named_row level.parents f in
-    let here = All-head (HasParent level) f fs inside in
-    let next = next_row level.epoch level.number (named level) in
-    let later = children level fs in
-    let as_child : Outcome → Option Parent = λ q. where_opened (λ value agree. Some (child_of F value)) q in
-    let is : group_outcome level g ≡ outcome_at level.epoch level.number (named level) F = outcome_is level good f here in
-    let child : (value : List ℕ) (agree : ℕ) → group_outcome level g ≡ Opened value agree → parent_at all (length front) ≡ group_child level g value =
-    λ value agree opened. ap (λ l. parent_at l (length front)) (e ∙ ap (λ q. front ++ cons_option (as_child q) later) (sym is ∙ opened))
-    ∙ parent_middle front (group_child level g value) later in
-    let rows : map (named_row all) (map (adopt (length front)) o.inner) ≡ filter_map next (members (named level) F) =
-    ap (λ l. map (named_row all) (map (adopt (length front)) l)) zip.0.inner ∙ rows_given level good f here (length front) all child in
-    let front' = front ++ cons_option (child_row level.epoch level.number (named level) F) [] in
-    let number : next_number (length front) o.outcome ≡ length front' = counted_on F front o.outcome ∙ ap (λ q. length (front ++ cons_option (as_child q) [])) (zip.0.outcome ∙ is) in
-    let rest : map (named_row all) (kept_from (length front') os) ≡ from_groups level next fs =
-    made_named level good fs (All-tail (HasParent level) f fs inside) os zip.1 front' all (e ∙ joined_on front later (as_child (outcome_at level.epoch level.number (named level) F))) in
-    map-append (named_row all) (map (adopt (length front)) o.inner) (kept_from (next_number (length front) o.outcome) os)
-    ∙ (λ i. rows i ++ map (named_row all) (kept_from (number i) os))
-    ∙ ap (λ l. filter_map next (members (named level) F) ++ l) rest
+abbrev pub aux_by : ℕ → Row → List ℕ → Next → Option Aux
+aux_by l row value next = aux_in l row.index next
 
--- what else all groups make
-pub given_named : {X : Type 0} (level : Level) → IsLevel level → (h : Row → List ℕ → Next → Option X) (f : Keys → RowView → Option X) → ((first : RowView) (value : List ℕ) (r : RowView) → f (group_keys level (group_of level.rows first) value) r ≡ h (named_row level.parents r) value (next_with (group_keys level (group_of level.rows first) value) r.report))
-    → (given : GroupOut → List X) → ((g : GroupView) (o : GroupOut) → IsOut level g o → given o ≡ of_group f level g)
-    → (firsts : List RowView) → All (HasParent level) firsts → (outs : List GroupOut) → AllZip (IsOut level) (map (group_of level.rows) firsts) outs → flat_map given outs ≡ from_groups level (row_by level.epoch level.number (named level) h) firsts
-given_named level good h f same given gives [] inside [] zip = refl
-given_named level good h f same given gives [] inside (o ∷ os) zip = absurd zip
-given_named level good h f same given gives (x ∷ xs) inside [] zip = absurd zip
-given_named level good h f same given gives (x ∷ xs) inside (o ∷ os) zip =
-    let here = gives (group_of level.rows x) o zip.0 ∙ group_gives level good x (All-head (HasParent level) x xs inside) h f (same x) in
-    λ i. here i ++ given_named level good h f same given gives xs (All-tail (HasParent level) x xs inside) os zip.1 i
+-- one more group: that of this first member
+module _ (level : Level) (good : IsLevel level) (first : RowView) (has_parent : HasParent level first) (firsts : List Row)
+    (out : GroupOut) (is : IsOut level (group_of level.rows first) out) where
+  abbrev seen : List Row
+  seen = named level
+
+  abbrev F : Row
+  F = named_row level.parents first
+
+  outcome_named : out.outcome ≡ outcome_at level.epoch level.number seen F
+  outcome_named = is.outcome ∙ outcome_is level good first has_parent
+
+  pub children_more : (old new : Children) → AreChildren level firsts old.parents old.rows.items
+      → AdoptsMore level (group_of level.rows first) out.outcome out.inner old new
+      → AreChildren level (firsts ++ F ∷ []) new.parents new.rows.items
+  children_more old new so more =
+      let g = group_of level.rows first in
+      let next = next_row level.epoch level.number seen in
+      let n = length old.parents in
+      let added : List Parent = cons_option (child_under level g out.outcome) [] in
+      let longer : length new.parents ≡ n + length added = ap length more.parents ∙ length-append old.parents added in
+      let P : RowView → Type 0 = λ r. r.parent < length new.parents in
+      let child : (value : List ℕ) (agree : ℕ) → group_outcome level g ≡ Opened value agree
+      → parent_at new.parents n ≡ group_child level g value =
+      λ value agree opened.
+      ap (λ l. parent_at l n) (more.parents ∙ ap (λ o. old.parents ++ cons_option (child_under level g o) []) (is.outcome ∙ opened))
+      ∙ parent_middle old.parents (group_child level g value) [] in
+      let given : List ℕ → List InnerView = λ value. filter_map (inner_under (group_keys level g value)) (group_members level g) in
+      let adopted : All P (map (adopt n) (of_opened given (group_outcome level g))) =
+      elim (group_outcome level g) as (λ q. out.outcome ≡ q → All P (map (adopt n) (of_opened given q))) [
+        | Opened value agree ↦ λ o.
+            let one : length added ≡ 1 = ap (λ q. length (cons_option (child_under level g q) [])) o in
+            All-map P (adopt n) (given value) (λ k d lt. omega (arith, longer, one))
+        | Few ↦ λ o. All-nil P
+        | NoLine ↦ λ o. All-nil P
+        | BadValue ↦ λ o. All-nil P
+      ] is.outcome in
+      let here : map (named_row new.parents) (map (adopt n) out.inner) ≡ filter_map next (members seen F) =
+      ap (λ l. map (named_row new.parents) (map (adopt n) l)) is.inner ∙ rows_given level good first has_parent n new.parents child in
+      let before : map (named_row new.parents) old.rows.items ≡ map (named_row old.parents) old.rows.items =
+      map_within (λ (r : RowView). r.parent < n) (named_row new.parents) (named_row old.parents)
+      (λ r lt. ap (λ p. record { index = r.index; parent = p; frame = r.report })
+      (ap (λ l. parent_at l r.parent) more.parents ∙ get_or_append_left old.parents added no_parent r.parent lt))
+      old.rows.items so.inside in
+      record {
+        parents_are = more.parents ∙ (λ i. so.parents_are i ++ cons_option (child_under level g (outcome_named i)) [])
+            ∙ sym (filter_map-append (child_row level.epoch level.number seen) firsts (F ∷ []));
+        inside = subst (All P) (sym more.rows) (All-append P old.rows.items (map (adopt n) out.inner)
+            (All-weaker (λ (r : RowView). r.parent < n) P (λ r lt. omega (arith, longer)) old.rows.items so.inside)
+            (subst (λ l. All P (map (adopt n) l)) (sym is.inner) adopted));
+        rows_are = ap (map (named_row new.parents)) more.rows ∙ map-append (named_row new.parents) old.rows.items (map (adopt n) out.inner)
+            ∙ (λ i. (before ∙ so.rows_are) i ++ here i) ∙ sym (flat_map-push (λ one. filter_map next (members seen one)) firsts F);
+      }
+
+  pub held_more : (old new : Held) → IsHeld level firsts old → HoldsMore level (group_of level.rows first) out old new
+      → IsHeld level (firsts ++ F ∷ []) new
+  held_more old new so more = record {
+    children = children_more old.children new.children so.children more.children;
+    refusals = more.refusals
+        ∙ (λ i. so.refusals i ++ (is.refusals
+        ∙ group_gives level good first has_parent (refused_by level.number) refusal_under (λ value r. refl)) i)
+        ∙ sym (flat_map-push (λ one. filter_map (refused_row level.epoch level.number seen) (members seen one)) firsts F);
+    aux = more.aux
+        ∙ (λ i. so.aux i ++ (is.aux ∙ group_gives level good first has_parent (aux_by level.number) aux_under (λ value r. refl)) i)
+        ∙ sym (flat_map-push (λ one. filter_map (aux_row level.epoch level.number seen) (members seen one)) firsts F);
+  }
+
+-- there are no more parents than groups
+pub few_children : (level : Level) (firsts : List Row) (parents : List Parent) (rows : List RowView) → AreChildren level firsts parents rows
+    → length parents ≤ length firsts
+few_children level firsts parents rows so =
+    omega (arith, ap length so.parents_are, filter_map_fewer (of_level level child_row) firsts)
+
+-- of no group nothing is held
+pub none_children : (level : Level) → AreChildren level [] [] []
+none_children level = record { parents_are = refl; inside = All-nil (λ (r : RowView). r.parent < 0); rows_are = refl }
 
 -- the first members, named
 pub first_ones_named : (parents : List Parent) → AllPairs (λ (p q : Parent). p.path ≢ q.path) parents → (rows : List RowView) → All (λ (r : RowView). r.parent < length parents) rows → first_ones same_group (map (named_row parents) rows) ≡ map (named_row parents) (first_ones same_key rows)
@@ -226,12 +266,6 @@ first_ones_named parents distinct (x ∷ xs) h =
           | true ↦ more
           | false ↦ ap (λ l. named_row parents y ∷ l) more
         ]
-
--- what is made group by group is made of the first members of the rows that the level stands for
-pub groups_of_named : {X : Type 0} (level : Level) → IsLevel level → (f : Row → Option X) → from_groups level f (first_ones same_key level.rows) ≡ flat_map (λ first. filter_map f (members (named level) first)) (first_members (named level))
-groups_of_named level good f =
-    sym (flat_map-map (λ first. filter_map f (members (named level) first)) (named_row level.parents) (first_ones same_key level.rows))
-    ∙ ap (flat_map (λ first. filter_map f (members (named level) first))) (sym (first_ones_named level.parents good.distinct level.rows good.parents))
 
 -- the rows ascend under their names too
 pub up_named : (parents : List Parent) (rows : List RowView) → IsStrictlySortedBy row_cmp rows → IsStrictlySortedBy (λ (a b : Row). nat_cmp a.index b.index) (map (named_row parents) rows)
@@ -254,46 +288,6 @@ sorted_named parents rows h k d low lt =
     let before : get_or (map (named_row parents) rows) k d ≡ named_row parents (get_or rows k some_row) = get_or-map (named_row parents) rows k some_row d (omega arith) in
     (λ i. is_lt (nat_cmp (here i).index (before i).index)) ∙ h k some_row low (omega arith)
 
--- what a row makes has the row's number, where what it makes of what it holds has
-pub number_kept : {X : Type 0} (h : Row → List ℕ → Next → Option X) (number : X → ℕ) → ((row : Row) (value : List ℕ) (next : Next) (x : X) → h row value next ≡ Some x → number x ≡ row.index) → (e l : ℕ) (all : List Row) (row : Row) (x : X) → row_by e l all h row ≡ Some x → number x ≡ row.index
-number_kept {X} h number kept e l all row x is = by_outcome (outcome_at e l all row) is
-  where
-    by_outcome : (o : Outcome) → where_opened (λ value agree. h row value (next_at e l row value)) o ≡ Some x → number x ≡ row.index
-    by_outcome (Opened value agree) is = kept row value (next_at e l row value) x is
-    by_outcome Few is = absurd (cc)
-    by_outcome NoLine is = absurd (cc)
-    by_outcome BadValue is = absurd (cc)
-
-row_number : (row : Row) (value : List ℕ) (next : Next) (x : Row) → stepped row value next ≡ Some x → x.index ≡ row.index
-row_number row value (Refused why) x is = absurd (cc)
-row_number row value (Last extra) x is = absurd (cc)
-row_number row value (Inner frame) x is =
-    let it : under (child_of row value) (record { index = row.index; frame = frame }) ≡ x = cc in
-    sym (ap (λ (r : Row). r.index) it)
-
--- a row that comes from a row has its number
-pub index_kept : (e l : ℕ) (all : List Row) (row next : Row) → next_row e l all row ≡ Some next → next.index ≡ row.index
-index_kept = number_kept stepped (λ (r : Row). r.index) row_number
-
--- what is refused of a row that holds this
-abbrev pub refused_by : ℕ → Row → List ℕ → Next → Option Refusal
-refused_by l row value next = refusal_in l row.index next
-
-pub refusal_number : (l : ℕ) (row : Row) (value : List ℕ) (next : Next) (x : Refusal) → refused_by l row value next ≡ Some x → x.index ≡ row.index
-refusal_number l row value (Refused why) x is = let it : record { index = row.index; stage = Layer l; why = why } ≡ x = cc in sym (ap (λ (r : Refusal). r.index) it)
-refusal_number l row value (Last extra) x is = absurd (cc)
-refusal_number l row value (Inner frame) x is = absurd (cc)
-
--- the extra bytes of a row that holds this
-abbrev pub aux_by : ℕ → Row → List ℕ → Next → Option Aux
-aux_by l row value next = aux_in l row.index next
-
-pub aux_number : (l : ℕ) (row : Row) (value : List ℕ) (next : Next) (x : Aux) → aux_by l row value next ≡ Some x → x.index ≡ row.index
-aux_number l row value (Refused why) x is = absurd (cc)
-aux_number l row value (Last []) x is = absurd (cc)
-aux_number l row value (Last (byte ∷ bytes)) x is = let it : record { index = row.index; level = l; bytes = byte ∷ bytes } ≡ x = cc in sym (ap (λ (a : Aux). a.index) it)
-aux_number l row value (Inner frame) x is = absurd (cc)
-
 module _ (level : Level) (good : IsLevel level) (groups : List GroupView) (gs : groups ≡ groups_of level.rows) (outs : List GroupOut) (zip : AreOuts level groups outs) where
   abbrev pub firsts : List RowView
   firsts = first_ones same_key level.rows
@@ -305,30 +299,34 @@ module _ (level : Level) (good : IsLevel level) (groups : List GroupView) (gs : 
   unfolding groups_of
   firsts_zip = subst (λ g. AllZip (IsOut level) g outs) gs zip
 
-  -- The rows that are made group by group and then sorted stand for the next rows.
-  pub after_rows : (parents : List Parent) → parents ≡ parents_at level.epoch level.number (named level) → (sorted : List RowView) → IsPermutation (kept_from 0 outs) sorted → IsSorted row_cmp sorted → map (named_row parents) sorted ≡ next_rows level.epoch level.number (named level)
-  unfolding groups_of next_rows parents_at
-  after_rows parents ps sorted moved order =
-      let f = next_row level.epoch level.number (named level) in
-      let made : map (named_row parents) (kept_from 0 outs) ≡ from_groups level f firsts =
-      made_named level good firsts firsts_inside outs firsts_zip [] parents
-      (ps ∙ ap (filter_map (child_row level.epoch level.number (named level))) (first_ones_named level.parents good.distinct level.rows good.parents)) in
-      sorted_groups (λ (r : Row). r.index) f (index_kept level.epoch level.number (named level)) (named level) (map (named_row parents) (kept_from 0 outs)) (map (named_row parents) sorted) (up_named level.parents level.rows good.ascending)
-      (made ∙ groups_of_named level good f) (IsPermutation-map (named_row parents) (kept_from 0 outs) sorted moved) (sorted_named parents sorted order)
+module _ (level : Level) (good : IsLevel level) where
+  -- What is made group by group and then sorted is what the rows make.
+  pub sorted_rows_are : {X : Type 0} (number : X → ℕ) (f : Row → Option X) → ((row : Row) (x : X) → f row ≡ Some x → number x ≡ row.index)
+      → (made sorted : List X) → made ≡ by_groups f (named level) (first_members (named level)) → IsPermutation made sorted
+      → IsSorted (λ (a b : X). nat_cmp (number a) (number b)) sorted → sorted ≡ filter_map f (named level)
+  sorted_rows_are number f kept made sorted is moved order =
+      sorted_groups number f kept (named level) made sorted (up_named level.parents level.rows good.ascending) is moved order
 
-  -- What else is made group by group and then sorted is what the rows make.
-  pub given_rows : {X : Type 0} (h : Row → List ℕ → Next → Option X) (number : X → ℕ) → ((row : Row) (value : List ℕ) (next : Next) (x : X) → h row value next ≡ Some x → number x ≡ row.index) → (f : Keys → RowView → Option X)
-      → ((first : RowView) (value : List ℕ) (r : RowView) → f (group_keys level (group_of level.rows first) value) r ≡ h (named_row level.parents r) value (next_with (group_keys level (group_of level.rows first) value) r.report))
-      → (given : GroupOut → List X) → ((g : GroupView) (o : GroupOut) → IsOut level g o → given o ≡ of_group f level g)
-      → (sorted : List X) → IsPermutation (flat_map given outs) sorted → IsSorted (λ (a b : X). nat_cmp (number a) (number b)) sorted → sorted ≡ filter_map (row_by level.epoch level.number (named level) h) (named level)
-  given_rows h number kept f same given gives sorted moved order =
-      sorted_groups number (row_by level.epoch level.number (named level) h) (number_kept h number kept level.epoch level.number (named level)) (named level) (flat_map given outs) sorted (up_named level.parents level.rows good.ascending)
-      (given_named level good h f same given gives firsts firsts_inside outs firsts_zip ∙ groups_of_named level good (row_by level.epoch level.number (named level) h)) moved order
+  pub after_rows : (parents : List Parent) (rows sorted : List RowView) → AreChildren level (first_members (named level)) parents rows
+      → IsPermutation rows sorted → IsSorted row_cmp sorted → map (named_row parents) sorted ≡ of_level level next_rows
+  unfolding next_rows
+  after_rows parents rows sorted so moved order =
+      sorted_rows_are (λ (r : Row). r.index) (of_level level next_row)
+      (λ row next is. (next_from level.epoch level.number (named level) row next is).index)
+      (map (named_row parents) rows) (map (named_row parents) sorted) so.rows_are
+      (IsPermutation-map (named_row parents) rows sorted moved) (sorted_named parents sorted order)
 
-  pub refusals_given : (sorted : List Refusal) → IsPermutation (flat_map (λ (o : GroupOut). o.refusals) outs) sorted → IsSorted (λ (a b : Refusal). nat_cmp a.index b.index) sorted → sorted ≡ refusals_at level.epoch level.number (named level)
+  pub refusals_given : (made sorted : List Refusal)
+      → made ≡ by_groups (of_level level refused_row) (named level) (first_members (named level))
+      → IsPermutation made sorted → IsSorted (λ (a b : Refusal). nat_cmp a.index b.index) sorted → sorted ≡ of_level level refusals_at
   unfolding refusals_at
-  refusals_given = given_rows (refused_by level.number) (λ (r : Refusal). r.index) (refusal_number level.number) refusal_under (λ first value r. refl) (λ (o : GroupOut). o.refusals) (λ g o is. is.refusals)
+  refusals_given =
+      sorted_rows_are (λ (r : Refusal). r.index) (of_level level refused_row)
+      (λ row a is. (refused_from level.epoch level.number (named level) row a is).index)
 
-  pub aux_given : (sorted : List Aux) → IsPermutation (flat_map (λ (o : GroupOut). o.aux) outs) sorted → IsSorted (λ (a b : Aux). nat_cmp a.index b.index) sorted → sorted ≡ aux_at level.epoch level.number (named level)
+  pub aux_given : (made sorted : List Aux) → made ≡ by_groups (of_level level aux_row) (named level) (first_members (named level))
+      → IsPermutation made sorted → IsSorted (λ (a b : Aux). nat_cmp a.index b.index) sorted → sorted ≡ of_level level aux_at
   unfolding aux_at
-  aux_given = given_rows (aux_by level.number) (λ (a : Aux). a.index) (aux_number level.number) aux_under (λ first value r. refl) (λ (o : GroupOut). o.aux) (λ g o is. is.aux)
+  aux_given =
+      sorted_rows_are (λ (a : Aux). a.index) (of_level level aux_row)
+      (λ row a is. (aux_from level.epoch level.number (named level) row a is).index)

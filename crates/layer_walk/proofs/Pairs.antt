@@ -13,7 +13,8 @@ zip_lengths R (x ∷ xs) [] zip = absurd zip
 zip_lengths R (x ∷ xs) (y ∷ ys) zip = omega (arith, zip_lengths R xs ys zip.1)
 
 -- and they agree at each place
-pub zip_at : {A B : Type 0} (R : A → B → Type 0) (xs : List A) (ys : List B) (i : ℕ) (d : A) (e : B) → AllZip R xs ys → i < length xs → R (get_or xs i d) (get_or ys i e)
+pub zip_at : {A B : Type 0} (R : A → B → Type 0) (xs : List A) (ys : List B) (i : ℕ) (d : A) (e : B) → AllZip R xs ys → i < length xs
+    → R (get_or xs i d) (get_or ys i e)
 zip_at R [] ys i d e zip lt = absurd (omega arith)
 zip_at R (x ∷ xs) [] i d e zip lt = absurd zip
 zip_at R (x ∷ xs) (y ∷ ys) zero d e zip lt = zip.0

@@ -10,7 +10,7 @@ use Rattle.layer_walk.specs.Rows.{Row}
 use Rattle.layer_walk.specs.Levels.{parents_at}
 use Rattle.layer_walk.specs.Outs.{parent_at}
 use Rattle.layer_walk.specs.Reveal.{no_parent}
-use Rattle.layer_walk.specs.Made.{IsLevel, named, named_row}
+use Rattle.layer_walk.specs.Made.{of_level, IsLevel, named, named_row}
 use Rattle.layer_walk.proofs.Numbers.{one_place}
 use Rattle.layer_walk.proofs.WholePaths.{PathsFix, Depth, parents_apart, parents_deep}
 
@@ -36,19 +36,22 @@ module _ (level : Level) (good : IsLevel level) where
       let of_a = from_map (named_row level.parents) a level.rows ia in
       let of_b = from_map (named_row level.parents) b level.rows ib in
       let one : of_a.0.parent ≡ of_b.0.parent =
-      one_place level.parents good.distinct of_a.0.parent of_b.0.parent (each_of HasParent level.rows good.parents of_a.0 of_a.1) (each_of HasParent level.rows good.parents of_b.0 of_b.1)
+      one_place level.parents good.distinct of_a.0.parent of_b.0.parent (each_of HasParent level.rows good.parents of_a.0 of_a.1)
+      (each_of HasParent level.rows good.parents of_b.0 of_b.1)
       (ap (λ (r : Row). r.parent.path) of_a.2 ∙ same ∙ ap (λ (r : Row). r.parent.path) (sym of_b.2)) in
-      ap (λ (r : Row). r.parent.check) (sym of_a.2) ∙ ap (λ i. (parent_at level.parents i).check) one ∙ ap (λ (r : Row). r.parent.check) of_b.2
+      ap (λ (r : Row). r.parent.check) (sym of_a.2) ∙ ap (λ i. (parent_at level.parents i).check) one
+      ∙ ap (λ (r : Row). r.parent.check) of_b.2
 
   deep : Depth level.number (named level)
   unfolding Depth
   deep r i =
       let from = from_map (named_row level.parents) r level.rows i in
       ap (λ (r : Row). length r.parent.path) (sym from.2)
-      ∙ good.depth from.0.parent no_parent (each_of (λ (r : RowView). r.parent < length level.parents) level.rows good.parents from.0 from.1)
+      ∙ good.depth from.0.parent no_parent (each_of (λ (r : RowView). r.parent < length level.parents) level.rows good.parents from.0
+      from.1)
 
-  pub paths_differ : AllPairs (λ (p q : Parent). p.path ≢ q.path) (parents_at level.epoch level.number (named level))
+  pub paths_differ : AllPairs (λ (p q : Parent). p.path ≢ q.path) (of_level level parents_at)
   paths_differ = all_pairs _ _ (parents_apart level.epoch level.number (named level) fix)
 
-  pub depth_more : All (λ (p : Parent). length p.path ≡ level.number + 1) (parents_at level.epoch level.number (named level))
-  depth_more k d lt = parents_deep level.epoch level.number (named level) _ deep (in_at (parents_at level.epoch level.number (named level)) k d lt)
+  pub depth_more : All (λ (p : Parent). length p.path ≡ level.number + 1) (of_level level parents_at)
+  depth_more k d lt = parents_deep level.epoch level.number (named level) _ deep (in_at (of_level level parents_at) k d lt)

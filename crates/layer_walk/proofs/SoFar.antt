@@ -39,7 +39,9 @@ none_done level outer told good number g c r a = record {
 }
 
 -- one more level
-pub one_more : (e : ℕ) (rows : List Row) (outer : List Refusal) (n : ℕ) (level next : Level) (old new : Told) → IsSoFar e rows outer n level old → TellsLevel level old new → IsAfter level next → IsLevel next → IsSoFar e rows outer (n + 1) next new
+pub one_more : (e : ℕ) (rows : List Row) (outer : List Refusal) (n : ℕ) (level next : Level) (old new : Told)
+    → IsSoFar e rows outer n level old → TellsLevel level old new → IsAfter level next → IsLevel next
+    → IsSoFar e rows outer (n + 1) next new
 unfolding rows_from groups_told levels_told refusals_told aux_told
 one_more e rows outer n level next old new so tells after good =
     let up : suc n ≡ n + 1 = omega arith in

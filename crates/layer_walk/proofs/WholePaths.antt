@@ -128,7 +128,8 @@ PathsApart groups = Pairwise (λ (g h : OpenedGroup). g.path ≢ h.path) groups
 -- what rows give whose groups are opened, each on the path of its row's group
 module _ {X : Type 0} (e l : ℕ) (rows : List Row) (f : Row → Option X) (path : X → List Step)
     (given : (row : Row) (x : X) → f row ≡ Some x → OpenedOn e l rows row (path x)) where
-  given_apart : (firsts : List Row) → PathsFix rows → ((r : Row) → In r firsts → In r rows) → Pairwise (λ a b. same_group a b ≡ false) firsts
+  given_apart : (firsts : List Row) → PathsFix rows → ((r : Row) → In r firsts → In r rows)
+      → Pairwise (λ a b. same_group a b ≡ false) firsts
       → Pairwise (λ (x y : X). path x ≢ path y) (filter_map f firsts)
   given_apart [] fix inside apart = tt
   given_apart (a ∷ firsts) fix inside apart =
@@ -140,7 +141,8 @@ module _ {X : Type 0} (e l : ℕ) (rows : List Row) (f : Row → Option X) (path
               let from = from_filter_map f firsts y i in
               let at = given a x is in
               let behind = given from.0 y from.2 in
-              let one = one_path e l rows a from.0 at.value behind.value at.agree behind.agree fix (inside a (inl refl)) (inside from.0 (inr from.1))
+              let one = one_path e l rows a from.0 at.value behind.value at.agree behind.agree fix (inside a (inl refl))
+              (inside from.0 (inr from.1))
               at.opened behind.opened (sym at.path_is ∙ same ∙ behind.path_is) in
               let no : true ≡ false = sym (in_one_group a from.0 one) ∙ of_all (λ b. same_group a b ≡ false) firsts apart.0 from.0 from.1 in
               cc),
@@ -176,7 +178,8 @@ pub parents_apart : (e l : ℕ) (rows : List Row) → PathsFix rows → Pairwise
 unfolding parents_at
 parents_apart e l rows fix = firsts_apart e l rows (child_row e l rows) (λ (p : Parent). p.path) (child_from e l rows) fix
 
-pub parents_deep : (e l : ℕ) (rows : List Row) (parent : Parent) → Depth l rows → In parent (parents_at e l rows) → length parent.path ≡ l + 1
+pub parents_deep : (e l : ℕ) (rows : List Row) (parent : Parent) → Depth l rows → In parent (parents_at e l rows)
+    → length parent.path ≡ l + 1
 unfolding parents_at
 parents_deep e l rows = firsts_deep e l rows (child_row e l rows) (λ (p : Parent). p.path) (child_from e l rows)
 

@@ -1,54 +1,49 @@
 -- What goes over the groups of a level makes of what they give.
-use Rattle.std.specs.Prelude.{◌≡◌, ℕ, ◌+◌, List, [], ◌∷◌, ◌++◌, map, if◌then◌else◌}
-use Rattle.std.specs.List.{flat_map}
+use Rattle.std.specs.Prelude.{◌≡◌, ◌<◌, ℕ, List, [], ◌++◌, length, map, All, Option, Some}
+use Rattle.std.specs.List.{filter_map, cons_option}
 use Rattle.std.specs.List.Sorted.{IsPermutation, IsSorted, IsStable}
 use Rattle.std.specs.declared.cmp.Ordering.{Ordering}
 use Rattle.tag_groups.specs.RowView.{RowView}
-use Rattle.layer_walk.specs.declared.auxiliary.Aux.{Aux}
+use Rattle.tag_groups.specs.GroupView.{GroupView}
 use Rattle.layer_walk.specs.declared.group.GroupOut.{GroupOut}
+use Rattle.layer_walk.specs.declared.held.Children.{Children}
 use Rattle.layer_walk.specs.declared.held.Held.{Held}
+use Rattle.layer_walk.specs.declared.level.Level.{Level}
+use Rattle.layer_walk.specs.declared.level.Parent.{Parent}
 use Rattle.layer_walk.specs.declared.outcome.Outcome.{Outcome}
-use Rattle.layer_walk.specs.declared.refusal.Refusal.{Refusal}
+use Rattle.layer_walk.specs.Rows.{Row}
 use Rattle.layer_walk.specs.Seen.{InnerView}
-use Rattle.layer_walk.specs.Levels.{is_opened}
+use Rattle.layer_walk.specs.Levels.{where_opened, child_row, next_row, refused_row, aux_row, by_groups}
+use Rattle.layer_walk.specs.Made.{of_level, group_child, named, named_row}
 
 -- the row that an inner report becomes under the parent of this number
 abbrev pub adopt : ℕ → InnerView → RowView
 adopt n inner = record { index = inner.index; parent = n; report = inner.frame }
 
--- the number of the next parent, after a group that comes out so
-abbrev pub next_number : ℕ → Outcome → ℕ
-next_number n outcome = if is_opened outcome then n + 1 else n
+-- the group as a parent, where it comes out so
+abbrev pub child_under : Level → GroupView → Outcome → Option Parent
+child_under level group outcome = where_opened (λ value agree. Some (group_child level group value)) outcome
 
--- the rows of the next level, group by group, where the next parent has the number n
-abbrev pub kept_from : ℕ → List GroupOut → List RowView
-kept_from n [] = []
-kept_from n (o ∷ os) = map (adopt n) o.inner ++ kept_from (next_number n o.outcome) os
+-- The groups of these rows, where they are opened, are these parents, and these are the rows that their members hold.
+pub record AreChildren (level : Level) (firsts : List Row) (parents : List Parent) (rows : List RowView) : Type 0 where
+  pub parents_are : parents ≡ filter_map (of_level level child_row) firsts
+  pub inside : All (λ (row : RowView). row.parent < length parents) rows
+  pub rows_are : map (named_row parents) rows ≡ by_groups (of_level level next_row) (named level) firsts
 
--- the number of the next parent, after all of the groups
-abbrev pub number_after : ℕ → List GroupOut → ℕ
-number_after n [] = n
-number_after n (o ∷ os) = number_after (next_number n o.outcome) os
+-- what the members of the groups of these rows hold
+pub record IsHeld (level : Level) (firsts : List Row) (held : Held) : Type 0 where
+  pub children : AreChildren level firsts held.children.parents held.children.rows.items
+  pub refusals : held.refusals.items ≡ by_groups (of_level level refused_row) (named level) firsts
+  pub aux : held.aux.items ≡ by_groups (of_level level aux_row) (named level) firsts
 
--- the refusals of the groups, joined
-abbrev pub all_refusals : List GroupOut → List Refusal
-all_refusals outs = flat_map (λ (o : GroupOut). o.refusals) outs
+-- One more group is the last parent, where it comes out so, and these are the last rows.
+pub record AdoptsMore (level : Level) (group : GroupView) (outcome : Outcome) (inners : List InnerView) (old new : Children) : Type 0 where
+  pub parents : new.parents ≡ old.parents ++ cons_option (child_under level group outcome) []
+  pub rows : new.rows.items ≡ old.rows.items ++ map (adopt (length old.parents)) inners
 
--- the extra bytes of the groups, joined
-abbrev pub all_aux : List GroupOut → List Aux
-all_aux outs = flat_map (λ (o : GroupOut). o.aux) outs
-
--- what the members of the groups hold
-pub record IsHeld (outs : List GroupOut) (held : Held) : Type 0 where
-  pub opened : held.opened ≡ number_after 0 outs
-  pub rows : held.rows.items ≡ kept_from 0 outs
-  pub refusals : held.refusals.items ≡ all_refusals outs
-  pub aux : held.aux.items ≡ all_aux outs
-
--- and what those of one more group hold
-pub record HoldsMore (out : GroupOut) (old new : Held) : Type 0 where
-  pub opened : new.opened ≡ next_number old.opened out.outcome
-  pub rows : new.rows.items ≡ old.rows.items ++ map (adopt old.opened) out.inner
+-- and what the members of one more group hold
+pub record HoldsMore (level : Level) (group : GroupView) (out : GroupOut) (old new : Held) : Type 0 where
+  pub children : AdoptsMore level group out.outcome out.inner old.children new.children
   pub refusals : new.refusals.items ≡ old.refusals.items ++ out.refusals
   pub aux : new.aux.items ≡ old.aux.items ++ out.aux
 

@@ -1,6 +1,6 @@
 -- From level to level, and what a level tells.
 use Rattle.std.specs.Prelude.{ℕ, zero, suc, Bool, true, false, List, [], ◌∷◌, ◌++◌, length, map, filter, Option, Some, None}
-use Rattle.std.specs.List.{filter_map}
+use Rattle.std.specs.List.{filter_map, flat_map}
 use Rattle.std.specs.Option.{option_map}
 use Rattle.layer_walk.specs.declared.outcome.Outcome.{Outcome}
 use Rattle.layer_walk.specs.declared.outcome.Outcome.TheVariants.{Opened, Few, NoLine, BadValue}
@@ -65,6 +65,10 @@ aux_row e l rows row = where_opened (λ value agree. aux_in l row.index (next_at
 -- the extra bytes of a level, in the order of its rows
 unfoldable pub aux_at : ℕ → ℕ → List Row → List Aux
 aux_at e l rows = filter_map (aux_row e l rows) rows
+
+-- what f gives of the members of each of these rows' groups, group by group
+abbrev pub by_groups : {X : Type 0} → (Row → Option X) → List Row → List Row → List X
+by_groups f rows firsts = flat_map (λ first. filter_map f (members rows first)) firsts
 
 -- the row's group as a parent, where it is opened
 abbrev pub child_row : ℕ → ℕ → List Row → Row → Option Parent

@@ -21,6 +21,10 @@ named_row parents row = record { index = row.index; parent = parent_at parents r
 abbrev pub named : Level → List Row
 named level = map (named_row level.parents) level.rows
 
+-- what f says of the rows that a level stands for, at its epoch and number
+abbrev pub of_level : {A : Type 0} → Level → (ℕ → ℕ → List Row → A) → A
+of_level level f = f level.epoch level.number (named level)
+
 -- by the number of the record
 abbrev pub row_cmp : RowView → RowView → Ordering
 row_cmp a b = nat_cmp a.index b.index
@@ -49,5 +53,5 @@ group_child level group value =
 pub record IsAfter (level next : Level) : Type 0 where
   pub number : next.number ≡ level.number + 1
   pub epoch : next.epoch ≡ level.epoch
-  pub parents : next.parents ≡ parents_at level.epoch level.number (named level)
-  pub rows : named next ≡ next_rows level.epoch level.number (named level)
+  pub parents : next.parents ≡ of_level level parents_at
+  pub rows : named next ≡ of_level level next_rows

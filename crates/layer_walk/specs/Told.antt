@@ -10,7 +10,7 @@ use Rattle.layer_walk.specs.declared.revealed.OpenedGroup.{OpenedGroup}
 use Rattle.layer_walk.specs.declared.revealed.Revealed.{Revealed}
 use Rattle.layer_walk.specs.declared.tell.Told.{Told}
 use Rattle.layer_walk.specs.Levels.{opened_at, counts_at, refusals_at, aux_at}
-use Rattle.layer_walk.specs.Made.{group_child, named}
+use Rattle.layer_walk.specs.Made.{of_level, group_child}
 use Rattle.layer_walk.specs.Reveal.{by_path, by_index, by_aux_index}
 
 -- the group as it is told, where it comes out so
@@ -27,10 +27,10 @@ outcomes_of outs = map (λ (o : GroupOut). o.outcome) outs
 
 -- A level more is told.
 pub record TellsLevel (level : Level) (old new : Told) : Type 0 where
-  pub groups : new.groups.items ≡ old.groups.items ++ opened_at level.epoch level.number (named level)
-  pub levels : new.levels ≡ old.levels ++ counts_at level.epoch level.number (named level)
-  pub refusals : new.refusals.items ≡ old.refusals.items ++ refusals_at level.epoch level.number (named level)
-  pub aux : new.aux.items ≡ old.aux.items ++ aux_at level.epoch level.number (named level)
+  pub groups : new.groups.items ≡ old.groups.items ++ of_level level opened_at
+  pub levels : new.levels ≡ old.levels ++ of_level level counts_at
+  pub refusals : new.refusals.items ≡ old.refusals.items ++ of_level level refusals_at
+  pub aux : new.aux.items ≡ old.aux.items ++ of_level level aux_at
 
 -- what is told, in its order
 abbrev pub revealed_of : ℕ → ℕ → Told → Revealed

@@ -7,9 +7,8 @@ ghost use Rattle.layer_walk.specs.Reveal.{no_parent};
 ghost use Rattle.layer_walk.specs.Standing.{level_zero_of};
 
 use crate::group::GroupOut;
-use crate::held::copied_rows;
+use crate::held::{Children, copied_children};
 use crate::outer::{copy_record, first_row};
-use crate::parents::parents_of;
 use crate::path::Path;
 use crate::sorts::sorted_rows;
 use report_frame::CHECK_BYTES;
@@ -86,8 +85,8 @@ pub fn level_after(
     ensures after { IfOk result (λ next. IsAfter level.now next) }
     ensures good { IfOk result (λ next. IsLevel next) }
 {
-    let parents = parents_of(alloc, level, groups, outs)?;
-    let rows = sorted_rows(copied_rows(alloc, outs)?)?;
+    let Children { parents, rows } = copied_children(alloc, level, groups, outs)?;
+    let rows = sorted_rows(rows)?;
     Ok(Level {
         number: level.number + 1,
         epoch: level.epoch,

@@ -9,9 +9,8 @@ ghost use Rattle.layer_walk.specs.Told.{TellsLevel};
 
 use crate::group::GroupOut;
 use crate::grouped::{GroupedLevel, grouper_after, with_groups};
-use crate::held::{Held, append, held_by};
+use crate::held::{Children, Held, append, held_by};
 use crate::jobs::outs_of;
-use crate::parents::parents_of;
 use crate::refusal::Refusals;
 use crate::revealed::LevelCounts;
 use crate::sorts::{sorted_aux, sorted_refusals, sorted_rows};
@@ -82,16 +81,15 @@ fn pass_level<R: Threads>(
     let level = &here.level;
     tell_groups(&mut told.groups, level, &here.groups, outs.as_slice())?;
     tell_count(&mut told.levels, outs.as_slice())?;
-    let parents = parents_of(alloc, level, &here.groups, outs.as_slice())?;
     let Held {
-        rows,
+        children,
         refusals,
         aux,
-        ..
-    } = held_by(alloc, outs)?;
+    } = held_by(alloc, level, &here.groups, outs)?;
     append(&mut told.refusals, sorted_refusals(refusals)?)?;
     append(&mut told.aux, sorted_aux(aux)?)?;
     let (number, epoch) = (level.number + 1, level.epoch);
+    let Children { parents, rows } = children;
     let grouper = grouper_after(rt, alloc, here, sorted_rows(rows)?, workers)?;
     Ok(with_groups(number, epoch, parents, grouper))
 }

@@ -15,7 +15,7 @@ use Rattle.layer_walk.specs.declared.level.Level.{Level}
 use Rattle.layer_walk.specs.declared.outcome.Outcome.{Outcome}
 use Rattle.layer_walk.specs.declared.outcome.Outcome.TheVariants.{Opened, Few, NoLine, BadValue}
 use Rattle.layer_walk.specs.declared.revealed.OpenedGroup.{OpenedGroup}
-use Rattle.layer_walk.specs.Made.{named_row, named, IsLevel}
+use Rattle.layer_walk.specs.Made.{of_level, named_row, IsLevel}
 use Rattle.layer_walk.specs.Outs.{group_points, group_outcome}
 use Rattle.layer_walk.specs.Told.{told_under}
 use Rattle.layer_walk.proofs.Making.{HasParent, same_points, first_ones_named}
@@ -46,7 +46,8 @@ none_list (Some x) none = absurd (none x refl)
 
 module _ (level : Level) (good : IsLevel level) where
   -- the certificate of a group is that of its first member
-  same_cert : (first : RowView) → HasParent level first → group_cert level (group_of level.rows first) ≡ row_cert level.epoch level.number (named level) (named_row level.parents first)
+  same_cert : (first : RowView) → HasParent level first
+      → group_cert level (group_of level.rows first) ≡ of_level level row_cert (named_row level.parents first)
   same_cert first inside =
       let points = same_points level good first inside in
       λ i. record {
@@ -58,7 +59,8 @@ module _ (level : Level) (good : IsLevel level) where
         numbers = line_numbers (points i) first.report.k;
       }
 
-  certified_firsts : (xs : List RowView) → All (HasParent level) xs → certified_groups level (map (group_of level.rows) xs) ≡ filter_map (certified_row level.epoch level.number (named level)) (map (named_row level.parents) xs)
+  certified_firsts : (xs : List RowView) → All (HasParent level) xs
+      → certified_groups level (map (group_of level.rows) xs) ≡ filter_map (of_level level certified_row) (map (named_row level.parents) xs)
   certified_firsts [] inside = refl
   certified_firsts (x ∷ xs) inside =
       let g = group_of level.rows x in
@@ -68,10 +70,11 @@ module _ (level : Level) (good : IsLevel level) where
       ∙ (λ i. cons_option (option_map (with_cert (same_cert x here i)) (group_told level good x here i)) (certified_firsts xs (All-tail (HasParent level) x xs inside) i))
 
   -- the groups of a level
-  pub groups_certified : (groups : List GroupView) → groups ≡ groups_of level.rows → certified_groups level groups ≡ certified_at level.epoch level.number (named level)
+  pub groups_certified : (groups : List GroupView) → groups ≡ groups_of level.rows
+      → certified_groups level groups ≡ of_level level certified_at
   unfolding groups_of certified_at
   groups_certified groups gs =
       let firsts = first_ones same_key level.rows in
       ap (certified_groups level) gs
       ∙ certified_firsts firsts (All-first_ones (HasParent level) same_key level.rows good.parents)
-      ∙ ap (filter_map (certified_row level.epoch level.number (named level))) (sym (first_ones_named level.parents good.distinct level.rows good.parents))
+      ∙ ap (filter_map (of_level level certified_row)) (sym (first_ones_named level.parents good.distinct level.rows good.parents))

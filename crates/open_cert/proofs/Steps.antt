@@ -41,8 +41,10 @@ none_done e records zero here made is good same groups none = record {
 }
 
 -- one more level
-pub one_more : (e : ℕ) (records : List Record) (n : ℕ) (here : GroupedLevel) (after : Level) (next : GroupedLevel) (made more both : List Certified) → IsHere e records n here made
-    → more ≡ certified_groups here.level here.groups → both ≡ made ++ more → IsAfter here.level after → IsLevel after → next.level ≡ after → next.groups ≡ groups_of after.rows
+pub one_more : (e : ℕ) (records : List Record) (n : ℕ) (here : GroupedLevel) (after : Level) (next : GroupedLevel)
+    (made more both : List Certified) → IsHere e records n here made
+    → more ≡ certified_groups here.level here.groups → both ≡ made ++ more → IsAfter here.level after → IsLevel after
+    → next.level ≡ after → next.groups ≡ groups_of after.rows
     → IsHere e records (n + 1) next both
 unfolding rows_from certified_told
 one_more e records n here after next made more both so level joined follows good same groups =

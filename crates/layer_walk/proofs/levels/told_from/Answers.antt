@@ -33,6 +33,7 @@ outs_of-requires-clause-few g c κs within =
 
 pub loop-done-preserved : goal.loop-done-preserved
 loop-done-preserved g c = record {
-  so_far = one_more _ _ _ _ _ _ _ _ c.loop-done.invariant.so_far c.in_ok-here.ensures.tells c.in_ok-here.ensures.after c.in_ok-here.ensures.good;
+  so_far = one_more _ _ _ _ _ _ _ _ c.loop-done.invariant.so_far c.in_ok-here.ensures.tells c.in_ok-here.ensures.after
+      c.in_ok-here.ensures.good;
   groups = c.in_ok-here.ensures.groups;
 }

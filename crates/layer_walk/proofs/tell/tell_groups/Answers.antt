@@ -6,7 +6,7 @@ use Rattle.tag_groups.specs.Grouped.{group_of}
 use Rattle.layer_walk.specs.Rows.{first_members}
 use Rattle.layer_walk.specs.Levels.{opened_row, opened_at}
 use Rattle.layer_walk.specs.Outs.{IsOut, FitsLevel}
-use Rattle.layer_walk.specs.Made.{named, named_row, group_child}
+use Rattle.layer_walk.specs.Made.{of_level, named, named_row, group_child}
 use Rattle.layer_walk.proofs.Next.{fit_at}
 use Rattle.layer_walk.proofs.Pairs.{zip_lengths}
 use Rattle.layer_walk.proofs.Telling.{told_option, group_told, out_at, outs_count, shut_none}
@@ -32,19 +32,34 @@ loop-i-preserved c =
     let level = c.args.level.now in
     let out = c.index-outs-i.result in
     let before = c.args.told.now.items in
-    let f = opened_row level.epoch level.number (named level) in
+    let f = of_level level opened_row in
     let all = first_members (named level) in
-    let at = out_at level c.requires.level c.args.groups.now c.requires.groups c.args.outs.now c.requires.outs c.loop-i.i out c.loop-i-test.true c.index-outs-i.is in
+    let at = out_at level c.requires.level c.args.groups.now c.requires.groups c.args.outs.now c.requires.outs c.loop-i.i out
+    c.loop-i-test.true c.index-outs-i.is in
     let F = named_row level.parents at.first in
     let told : told_option level (group_of level.rows at.first) out.points out.outcome ≡ f F =
-    (λ i. told_option level (group_of level.rows at.first) (at.is_out.points i) (at.is_out.outcome i)) ∙ group_told level c.requires.level at.first at.inside in
+    (λ i. told_option level (group_of level.rows at.first) (at.is_out.points i) (at.is_out.outcome i))
+    ∙ group_told level c.requires.level at.first at.inside in
     let one : c.match-out.told.items ≡ c.loop-i.told.items ++ cons_option (f F) [] = elim c.match-out.branch [
       | in-Opened+in_ok-push w ↦
           let g = at.group w.get-group.result.now w.get-group.ensures in
           ap (λ v. v.items) w.told-is ∙ w.in_ok-push.ensures.items
-          ∙ (λ i. c.loop-i.told.items ++ record { path = w.group_path.ensures i; points = out.points; agree = w.in-Opened.agree; members = length (w.members.ensures i) } ∷ [])
-          ∙ (λ i. c.loop-i.told.items ++ record { path = (group_child level (g i) w.in-Opened.value).path; points = out.points; agree = w.in-Opened.agree; members = length (g i).members } ∷ [])
-          ∙ ap (λ o. c.loop-i.told.items ++ cons_option (told_option level (group_of level.rows at.first) out.points o) []) (sym w.in-Opened.is)
+          ∙ (λ i. c.loop-i.told.items ++ record {
+            path = w.group_path.ensures i;
+            points = out.points;
+            agree = w.in-Opened.agree;
+            members =
+                length (w.members.ensures i);
+          } ∷ [])
+          ∙ (λ i. c.loop-i.told.items ++ record {
+            path = (group_child level (g i) w.in-Opened.value).path;
+            points = out.points;
+            agree =
+                w.in-Opened.agree;
+            members = length (g i).members;
+          } ∷ [])
+          ∙ ap (λ o. c.loop-i.told.items ++ cons_option (told_option level (group_of level.rows at.first) out.points o) [])
+          (sym w.in-Opened.is)
           ∙ ap (λ o. c.loop-i.told.items ++ cons_option o []) told
       | in_default w ↦
           ap (λ v. v.items) w.told-is ∙ sym (append-nil c.loop-i.told.items)
@@ -60,5 +75,5 @@ returns c =
     let level = c.args.level.now in
     let count = outs_count level c.requires.level c.args.groups.now c.requires.groups c.args.outs.now c.requires.outs in
     c.loop-i.invariant
-    ∙ ap (λ l. c.args.told.now.items ++ filter_map (opened_row level.epoch level.number (named level)) l)
+    ∙ ap (λ l. c.args.told.now.items ++ filter_map (of_level level opened_row) l)
     (take_all c.loop-i.i (first_members (named level)) (omega (arith, c.loop-i-test.false, count)))

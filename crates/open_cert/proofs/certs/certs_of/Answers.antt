@@ -15,7 +15,8 @@ loop-done-init c =
 
 pub loop-done-preserved : goal.loop-done-preserved
 loop-done-preserved c =
-    one_more c.args.epoch c.args.records.now c.loop-done._done c.loop-done.here c.in_ok-after.after c.in_ok-here-2.here c.loop-done.made.items _ c.put_all.new.made.items
+    one_more c.args.epoch c.args.records.now c.loop-done._done c.loop-done.here c.in_ok-after.after c.in_ok-here-2.here
+    c.loop-done.made.items _ c.put_all.new.made.items
     c.loop-done.invariant c.in_ok-outs.ensures.made c.in_ok-put_all.ensures c.in_ok-after.ensures.after c.in_ok-after.ensures.good c.in_ok-here-2.ensures.level c.in_ok-here-2.ensures.groups
 
 pub returns-clause-certs : goal.returns-clause-certs
