@@ -16,24 +16,35 @@ use Rattle.poly61.proofs.Values.{value-one, value-zero}
 use Rattle.poly61.proofs.PolynomialLaws.{same_below}
 use Rattle.poly61.proofs.Products.{vanishing_of-root, vanishing_of-top, vanishing_of-below}
 use Rattle.gao_decoder.specs.Decoding.{agreement, IsDecoded, IsDecodedShort}
+use Rattle.gao_decoder.specs.Problem.{Solves}
 use Rattle.gao_decoder.specs.Sequence.{AreNeighbours, IsStopped}
+use Rattle.gao_decoder.specs.declared.problem.Problem.{Problem}
 use Rattle.gao_decoder.specs.Choosing.{nonzero_count}
 use Rattle.gao_decoder.proofs.Counting.{agreement-count_to, agreement_same, nonzero_count-count_to}
 use Rattle.gao_decoder.proofs.Forwards.{forwards_at, one_only}
 
 -- w is not 0 at k points at least
-pub nonzero_enough : (xs ys s w : List ℕ) (k e : ℕ) → AreDistinct xs → AreElements xs → AreElements w → IsStopped xs ys s w k e → k ≤ nonzero_count w xs
-nonzero_enough xs ys s w k e distinct small w_elements stopped =
+pub nonzero_enough : (p : Problem) (s w : List ℕ) (e : ℕ) → AreElements p.xs.now → AreElements w → IsStopped p.xs.now p.ys.now s w p.k e → p.k ≤ nonzero_count w p.xs.now
+nonzero_enough p s w e small w_elements stopped =
+    let xs : List ℕ = p.xs.now in
     let n = length xs in
     let w_past : IsZeroFrom (coefficient_of w) (suc e) = λ i h. stopped.cofactor.above i (omega arith) in
-    let few : root_count n (suc e) (coefficient_of w) (coefficient_of xs) ≤ e = few_roots n e (coefficient_of xs) (coefficient_of w) distinct (AreElements-bounded xs small) (AreElements-bounded w w_elements) stopped.cofactor.top in
+    let few : root_count n (suc e) (coefficient_of w) (coefficient_of xs) ≤ e = few_roots n e (coefficient_of xs) (coefficient_of w) p.distinct (AreElements-bounded xs small)
+    (AreElements-bounded w w_elements) stopped.cofactor.top in
     let roots : count_to n (λ j. eqb (value w (get_or xs j 0)) 0) ≤ root_count n (suc e) (coefficient_of w) (coefficient_of xs) = count_to-grows n _ _ (λ j _ t. eq-eqb _ 0 (sym (value-places (suc e) w (get_or xs j 0) w_past) ∙ eqb-true _ 0 t)) in
     omega (arith, few, roots, stopped.few, nonzero_count-count_to w xs, count_to-not n (λ j. eqb (value w (get_or xs j 0)) 0))
 
--- where w is not 0, the polynomial that is looked for has the value y
-pub decoded_passes : (xs ys s w f : List ℕ) (k e : ℕ) → AreDistinct xs → length xs ≡ length ys → AreElements xs → AreElements ys → AreElements s → AreElements w → 1 ≤ k → k ≤ length xs → IsStopped xs ys s w k e → IsDecoded f xs ys k →
-    (i : ℕ) → i < length xs → (value w (get_or xs i 0) ≡ 0 → ⊥) → value f (get_or xs i 0) ≡ get_or ys i 0
-decoded_passes xs ys s w f k e distinct pairs xs_elements ys_elements s_elements w_elements some threshold stopped d i h w_nonzero =
+-- where w is not 0, the polynomial has the value y
+abbrev pub PassesWhere : Problem → List ℕ → List ℕ → Type 0
+PassesWhere p w f = (i : ℕ) → i < length p.xs.now → (value w (get_or p.xs.now i 0) ≡ 0 → ⊥) → value f (get_or p.xs.now i 0) ≡ get_or p.ys.now i 0
+
+-- the polynomial that is looked for does
+pub decoded_passes : (p : Problem) (s w f : List ℕ) (e : ℕ) → AreElements p.xs.now → AreElements p.ys.now → AreElements s → AreElements w
+    → IsStopped p.xs.now p.ys.now s w p.k e → Solves f p → PassesWhere p w f
+decoded_passes p s w f e xs_elements ys_elements s_elements w_elements stopped d i h w_nonzero =
+    let xs : List ℕ = p.xs.now in
+    let ys : List ℕ = p.ys.now in
+    let k : ℕ = p.k in
     let n : ℕ = length xs in
     let s_places : ℕ = (n + k + 1) / 2 in
     let s_past : IsZeroFrom (coefficient_of s) s_places = λ j l. stopped.low j (omega arith) in
@@ -43,8 +54,10 @@ decoded_passes xs ys s w f k e distinct pairs xs_elements ys_elements s_elements
     let f_value : (x : ℕ) → value f x ≡ value_to k (coefficient_of f) x = λ x. value-places k f x d.below in
     let tied : (j : ℕ) → j < n → value_to s_places (coefficient_of s) (coefficient_of xs j) ≡ field_product (value_to (suc e) (coefficient_of w) (coefficient_of xs j)) (coefficient_of ys j) = λ j l. sym (s_value (coefficient_of xs j)) ∙ stopped.tied j l ∙ ap (λ y. field_product y (coefficient_of ys j)) (w_value (coefficient_of xs j)) in
     let same : agreement f xs ys ≤ count_to n (λ j. eqb (value_to k (coefficient_of f) (coefficient_of xs j)) (coefficient_of ys j)) =
-    rw (agreement-count_to f xs ys pairs) (count_to-grows n _ _ (λ j _ t. eq-eqb _ _ (sym (f_value (coefficient_of xs j)) ∙ eqb-true _ _ t))) in
-    f_value (get_or xs i 0) ∙ forwards_at n k s_places e (coefficient_of xs) (coefficient_of ys) (coefficient_of s) (coefficient_of w) (coefficient_of f) distinct (AreElements-bounded xs xs_elements) (AreElements-bounded ys ys_elements) (AreElements-bounded s s_elements) (AreElements-bounded w w_elements) (AreElements-bounded f d.elements) tied s_past w_past d.below some threshold (omega arith) (omega (arith, stopped.few)) (omega (arith, same, d.agrees)) i h (λ z. w_nonzero (w_value (get_or xs i 0) ∙ z))
+    rw (agreement-count_to f xs ys p.pairs) (count_to-grows n _ _ (λ j _ t. eq-eqb _ _ (sym (f_value (coefficient_of xs j)) ∙ eqb-true _ _ t))) in
+    f_value (get_or xs i 0) ∙ forwards_at n k s_places e (coefficient_of xs) (coefficient_of ys) (coefficient_of s) (coefficient_of w) (coefficient_of f) p.distinct
+    (AreElements-bounded xs xs_elements) (AreElements-bounded ys ys_elements) (AreElements-bounded s s_elements) (AreElements-bounded w w_elements)
+    (AreElements-bounded f d.elements) tied s_past w_past d.below p.some p.threshold (omega arith) (omega (arith, stopped.few)) (omega (arith, same, d.agrees)) i h (λ z. w_nonzero (w_value (get_or xs i 0) ∙ z))
 
 -- the polynomial 1, where the zero polynomial had room
 pub set_one : (f : List ℕ) → IsZero f → 0 < length f → (get_or (set f 0 1) 0 0 ≡ 1) × HasDegreeBelow (set f 0 1) 1
@@ -70,14 +83,10 @@ first_neighbours xs ys r v s w ys_elements passes below same none one w_below = 
 }
 
 -- what `choose` says of its candidate
-abbrev pub IsOnly : List ℕ → List ℕ → List ℕ → List ℕ → ℕ → Type 0
-IsOnly xs ys w g k = (f : List ℕ) → AreElements f → HasDegreeBelow f k → ((i : ℕ) → i < length xs → (value w (get_or xs i 0) ≡ 0 → ⊥) → value f (get_or xs i 0) ≡ get_or ys i 0) → (i : ℕ) → get_or g i 0 ≡ get_or f i 0
+abbrev pub IsOnly : Problem → List ℕ → List ℕ → Type 0
+IsOnly p w g = (f : List ℕ) → AreElements f → HasDegreeBelow f p.k → PassesWhere p w f → SameCoefficients g f
 
--- so it is the candidate
-pub decoded_is : (xs ys s w g f : List ℕ) (k e : ℕ) → AreDistinct xs → length xs ≡ length ys → AreElements xs → AreElements ys → AreElements s → AreElements w → 1 ≤ k → k ≤ length xs → IsStopped xs ys s w k e → IsOnly xs ys w g k → IsDecoded f xs ys k → (i : ℕ) → get_or g i 0 ≡ get_or f i 0
-decoded_is xs ys s w g f k e distinct pairs xs_elements ys_elements s_elements w_elements some threshold stopped only d = only f d.elements d.below (decoded_passes xs ys s w f k e distinct pairs xs_elements ys_elements s_elements w_elements some threshold stopped d)
-
--- and the candidate agrees with as many points
+-- the same polynomial agrees with as many points
 pub decoded_enough : (xs ys g f : List ℕ) (k : ℕ) → HasDegreeBelow g k → ((i : ℕ) → get_or g i 0 ≡ get_or f i 0) → IsDecoded f xs ys k → length xs + k ≤ 2 * agreement g xs ys
 decoded_enough xs ys g f k g_below e d = omega (arith, d.agrees, agreement_same g f xs ys (λ x. value-same g f x e))
 
@@ -88,6 +97,13 @@ decoded_again xs ys g f k g_elements g_below e d = record { elements = g_element
 -- a copy of what is decoded is decoded
 pub decoded_copy : (xs ys g f : List ℕ) (k : ℕ) → AreElements g → ((i : ℕ) → get_or g i 0 ≡ get_or f i 0) → IsDecoded f xs ys k → IsDecoded g xs ys k
 decoded_copy xs ys g f k g_elements e d = decoded_again xs ys g f k g_elements (λ i past. e i ∙ d.below i past) e d
+
+-- so it is the candidate, which is decoded too
+pub decoded_is : (p : Problem) (s w g f : List ℕ) (e : ℕ) → AreElements p.xs.now → AreElements p.ys.now → AreElements s → AreElements w → AreElements g
+    → IsStopped p.xs.now p.ys.now s w p.k e → HasDegreeBelow g p.k → IsOnly p w g → Solves f p → Solves g p × SameCoefficients g f
+decoded_is p s w g f e xs_elements ys_elements s_elements w_elements g_elements stopped below only d =
+    let same = only f d.elements d.below (decoded_passes p s w f e xs_elements ys_elements s_elements w_elements stopped d) in
+    (decoded_again p.xs.now p.ys.now g f p.k g_elements below same d, same)
 
 -- what passes through k distinct points and is decoded is the only polynomial of degree below k through them
 pub decoded_through : (some_xs some_ys xs ys g f : List ℕ) → AreElements some_xs → AreDistinct some_xs → AreElements g → HasDegreeBelow g (length some_xs) → PassesThrough g some_xs some_ys

@@ -3,3 +3,4 @@ pub mod Search
 pub mod Sequence
 pub mod Choosing
 pub mod Halving
+pub mod Problem

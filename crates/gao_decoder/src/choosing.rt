@@ -3,9 +3,11 @@ ghost use Rattle.std.specs.Prelude.{◌≡◌, ◌≢◌, ◌↔◌, ℕ, ◌<�
 ghost use Rattle.field61.specs.Field.{AreElements};
 ghost use Rattle.poly61.specs.Poly.{value, IsZero, HasDegreeBelow, SameCoefficients, AreDistinct};
 ghost use Rattle.gao_decoder.specs.Decoding.{agreement, IsDecoded};
+ghost use Rattle.gao_decoder.specs.Problem.{Solves};
 ghost use Rattle.gao_decoder.specs.Sequence.{IsStopped};
 ghost use Rattle.gao_decoder.specs.Choosing.{nonzero_count, IsChosen};
 
+use crate::problem::Problem;
 use field61::{Fe, know_elements};
 use poly61::Poly;
 
@@ -50,27 +52,19 @@ fn choose_one(
 
 /// Makes the candidate the polynomial of degree below k through the first k points at which w is
 /// not 0. Any other that passes through all such points is the same.
-pub(crate) fn choose(
-    candidate: &mut Poly,
-    work: &mut Poly,
-    w: &Poly,
-    xs: &[Fe],
-    ys: &[Fe],
-    k: usize,
-)
-    requires distinct { AreDistinct xs.now }
-    requires pairs { length xs.now ≡ length ys.now }
-    requires room { k < length candidate.old }
-    requires work_room { k < length work.old }
-    requires many { k ≤ nonzero_count w.now xs.now }
+pub(crate) fn choose(candidate: &mut Poly, work: &mut Poly, w: &Poly, problem: &Problem)
+    requires room { problem.now.k < length candidate.old }
+    requires work_room { problem.now.k < length work.old }
+    requires many { problem.now.k ≤ nonzero_count w.now problem.now.xs.now }
     ensures room { length candidate.new ≡ length candidate.old }
     ensures work_room { length work.new ≡ length work.old }
-    ensures below { HasDegreeBelow candidate.new k }
-    ensures only { (f : List ℕ) → AreElements f → HasDegreeBelow f k
-        → ((i : ℕ) → i < length xs.now → value w.now (slice_index xs.now i) ≢ 0 →
-        value f (slice_index xs.now i) ≡ slice_index ys.now i)
+    ensures below { HasDegreeBelow candidate.new problem.now.k }
+    ensures only { (f : List ℕ) → AreElements f → HasDegreeBelow f problem.now.k
+        → ((i : ℕ) → i < length problem.now.xs.now → value w.now (slice_index problem.now.xs.now i) ≢ 0 →
+        value f (slice_index problem.now.xs.now i) ≡ slice_index problem.now.ys.now i)
         → SameCoefficients candidate.new f }
 {
+    let Problem { xs, ys, k } = *problem;
     know_elements(xs);
     candidate.clear();
     work.clear();
@@ -147,32 +141,27 @@ pub(crate) fn close(
     remainder: &Poly,
     cofactor: &Poly,
     degree: usize,
-    xs: &[Fe],
-    ys: &[Fe],
-    k: usize,
+    problem: &Problem,
     out: &mut Poly,
 ) -> bool
-    requires distinct { AreDistinct xs.now }
-    requires pairs { length xs.now ≡ length ys.now }
-    requires some { 1 ≤ k }
-    requires threshold { k ≤ length xs.now }
-    requires stopped { IsStopped xs.now ys.now remainder.now cofactor.now k degree }
-    requires candidate_room { length xs.now < length candidate.old }
-    requires work_room { length xs.now < length work.old }
-    requires room { k ≤ length out.old }
+    requires stopped { IsStopped problem.now.xs.now problem.now.ys.now remainder.now
+        cofactor.now problem.now.k degree }
+    requires candidate_room { length problem.now.xs.now < length candidate.old }
+    requires work_room { length problem.now.xs.now < length work.old }
+    requires room { problem.now.k ≤ length out.old }
     ensures candidate_room { length candidate.new ≡ length candidate.old }
     ensures work_room { length work.new ≡ length work.old }
     ensures room { length out.new ≡ length out.old }
-    ensures found { IsTrue result → IsDecoded out.new xs.now ys.now k }
-    ensures complete { (f : List ℕ) → IsDecoded f xs.now ys.now k → IsTrue result }
-    ensures only { (f : List ℕ) → IsDecoded f xs.now ys.now k → SameCoefficients out.new f }
+    ensures found { IsTrue result → Solves out.new problem.now }
+    ensures complete { (f : List ℕ) → Solves f problem.now → IsTrue result }
+    ensures only { (f : List ℕ) → Solves f problem.now → SameCoefficients out.new f }
     ensures none { result ≡ false → IsZero out.new }
 {
-    know_elements(xs);
-    know_elements(ys);
+    know_elements(problem.xs);
+    know_elements(problem.ys);
     remainder.know();
     cofactor.know();
-    choose(candidate, work, cofactor, xs, ys, k);
+    choose(candidate, work, cofactor, problem);
     candidate.know();
-    accept(candidate, xs, ys, k, out)
+    accept(candidate, problem.xs, problem.ys, problem.k, out)
 }

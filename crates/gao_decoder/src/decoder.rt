@@ -5,6 +5,7 @@ ghost use Rattle.gao_decoder.specs.Decoding.{IsDecoded, IsDecodedShort};
 ghost use Rattle.gao_decoder.specs.Search.{decoding_of};
 
 use crate::choosing::accept;
+use crate::problem::Problem;
 use crate::sampling::decode_sampled;
 use crate::scratch::Scratch;
 use crate::whole::decode_by_halving;
@@ -33,10 +34,11 @@ pub fn decode(scratch: &mut Scratch, xs: &[Fe], ys: &[Fe], k: usize, out: &mut P
     if decode_short(scratch, xs, ys, k, out) {
         return true;
     }
-    if decode_sampled(scratch, xs, ys, k, out) {
+    let problem = Problem { xs, ys, k };
+    if decode_sampled(scratch, &problem, out) {
         return true;
     }
-    decode_by_halving(&mut scratch.remainders, &mut scratch.halves, xs, ys, k, out)
+    decode_by_halving(&mut scratch.remainders, &mut scratch.halves, &problem, out)
 }
 
 /// Tries the polynomial of degree below k through the first k points alone: true exactly where it

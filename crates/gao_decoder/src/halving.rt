@@ -8,6 +8,7 @@ ghost use Rattle.poly61.specs.Poly.{value, IsZero, HasDegree};
 ghost use Rattle.gao_decoder.specs.Sequence.{IsTied, IsLow, IsStopped};
 ghost use Rattle.gao_decoder.specs.Halving.{row_at, TakesTo, IsPivoted, IsSumOfProducts};
 
+use crate::problem::Problem;
 use crate::sequence::goes_on;
 use field61::{Fe, know_elements, sum_of_two};
 use poly61::{Poly, ProductRoom, fill_powers};
@@ -391,18 +392,16 @@ fn halve(
 
 // Makes row a one that takes each (y, -1) to 0: the one of lower order.
 fn find_row(
-    xs: &[Fe],
-    ys: &[Fe],
-    k: usize,
+    problem: &Problem,
     firsts: &mut [Fe],
     seconds: &mut [Fe],
     rows: &mut Rows,
     levels: &mut [Level],
     products: &mut ProductRoom,
 ) -> bool
-    requires pairs { length ys.now ≡ length xs.now }
-    ensures { IsTrue result → IsTied rows.new.a.r rows.new.a.v xs.now ys.now }
+    ensures { IsTrue result → IsTied rows.new.a.r rows.new.a.v problem.now.xs.now problem.now.ys.now }
 {
+    let Problem { xs, ys, k } = *problem;
     if firsts.len() < xs.len() {
         return false;
     }
@@ -496,16 +495,13 @@ impl Halves {
 
     /// Makes row a one that takes each (y, -1) to 0, and answers the degree of its v where its
     /// degrees are low enough.
-    pub(crate) fn run(&mut self, xs: &[Fe], ys: &[Fe], k: usize) -> Option<usize>
-        requires pairs { length xs.now ≡ length ys.now }
-        requires threshold { k ≤ length xs.now }
+    pub(crate) fn run(&mut self, problem: &Problem) -> Option<usize>
         ensures { IfSome result (λ e.
-            IsStopped xs.now ys.now self.new.rows.a.r self.new.rows.a.v k e) }
+            IsStopped problem.now.xs.now problem.now.ys.now self.new.rows.a.r self.new.rows.a.v
+            problem.now.k e) }
     {
         if !find_row(
-            xs,
-            ys,
-            k,
+            problem,
             &mut self.firsts,
             &mut self.seconds,
             &mut self.rows,
@@ -514,6 +510,6 @@ impl Halves {
         ) {
             return None;
         }
-        stops_at(&self.rows.a, xs.len(), k)
+        stops_at(&self.rows.a, problem.xs.len(), problem.k)
     }
 }

@@ -6,6 +6,7 @@ mod choosing;
 mod decoder;
 mod halving;
 pub mod laws;
+mod problem;
 mod sampling;
 mod scratch;
 mod sequence;

@@ -1,11 +1,12 @@
 // Samples of the points.
 ghost use Rattle.std.specs.Prelude.{◌≡◌, ℕ, ◌<◌, ◌≤◌, ◌+◌, length, slice_index, IsTrue};
 ghost use Rattle.poly61.specs.Poly.{AreDistinct};
-ghost use Rattle.gao_decoder.specs.Decoding.{IsDecoded};
+ghost use Rattle.gao_decoder.specs.Problem.{Solves};
 ghost use Rattle.gao_decoder.specs.Sequence.{HaveRoom};
 
 use crate::choosing::is_decoded;
 use crate::halving::Halves;
+use crate::problem::Problem;
 use crate::scratch::Scratch;
 use crate::sequence::Remainders;
 use crate::whole::decode_by_halving;
@@ -51,33 +52,23 @@ fn take_sample(sample_xs: &mut [Fe], sample_ys: &mut [Fe], xs: &[Fe], ys: &[Fe])
 }
 
 /// Decodes samples of growing sizes, at even strides over all points.
-pub(crate) fn decode_sampled(
-    scratch: &mut Scratch,
-    xs: &[Fe],
-    ys: &[Fe],
-    k: usize,
-    out: &mut Poly,
-) -> bool
-    requires distinct { AreDistinct xs.now }
-    requires pairs { length xs.now ≡ length ys.now }
-    requires some { 1 ≤ k }
-    requires threshold { k ≤ length xs.now }
-    requires scratch { length xs.now ≤ scratch.old }
-    requires room { k ≤ length out.old }
+pub(crate) fn decode_sampled(scratch: &mut Scratch, problem: &Problem, out: &mut Poly) -> bool
+    requires scratch { length problem.now.xs.now ≤ scratch.old }
+    requires room { problem.now.k ≤ length out.old }
     ensures scratch { scratch.new ≡ scratch.old }
     ensures room { length out.new ≡ length out.old }
-    ensures found { IsTrue result → IsDecoded out.new xs.now ys.now k }
+    ensures found { IsTrue result → Solves out.new problem.now }
 {
-    if xs.len() < MANY_POINTS {
+    if problem.xs.len() < MANY_POINTS {
         return false;
     }
-    let mut more = FIRST_MORE.max(k / 4);
+    let mut more = FIRST_MORE.max(problem.k / 4);
     for _ in 0..32 {
-        let size = k.saturating_add(more);
-        if size > xs.len() / 2 {
+        let size = problem.k.saturating_add(more);
+        if size > problem.xs.len() / 2 {
             return false;
         }
-        if decode_sample(scratch, xs, ys, k, size, out) {
+        if decode_sample(scratch, problem, size, out) {
             return true;
         }
         more = more.saturating_mul(4);
@@ -86,24 +77,14 @@ pub(crate) fn decode_sampled(
 }
 
 // Decodes a sample, and counts its polynomial over all points.
-fn decode_sample(
-    scratch: &mut Scratch,
-    xs: &[Fe],
-    ys: &[Fe],
-    k: usize,
-    size: usize,
-    out: &mut Poly,
-) -> bool
-    requires distinct { AreDistinct xs.now }
-    requires pairs { length xs.now ≡ length ys.now }
-    requires some { 1 ≤ k }
-    requires threshold { k ≤ size }
-    requires within { size ≤ length xs.now }
-    requires scratch { length xs.now ≤ scratch.old }
-    requires room { k ≤ length out.old }
+fn decode_sample(scratch: &mut Scratch, problem: &Problem, size: usize, out: &mut Poly) -> bool
+    requires threshold { problem.now.k ≤ size }
+    requires within { size ≤ length problem.now.xs.now }
+    requires scratch { length problem.now.xs.now ≤ scratch.old }
+    requires room { problem.now.k ≤ length out.old }
     ensures scratch { scratch.new ≡ scratch.old }
     ensures room { length out.new ≡ length out.old }
-    ensures found { IsTrue result → IsDecoded out.new xs.now ys.now k }
+    ensures found { IsTrue result → Solves out.new problem.now }
 {
     if scratch.sample_xs.len() < size || scratch.sample_ys.len() < size {
         return false;
@@ -113,9 +94,7 @@ fn decode_sample(
         &mut scratch.sample_ys[..size],
         &mut scratch.remainders,
         &mut scratch.halves,
-        xs,
-        ys,
-        k,
+        problem,
         out,
     )
 }
@@ -125,29 +104,28 @@ fn decode_sample_in(
     sample_ys: &mut [Fe],
     remainders: &mut Remainders,
     halves: &mut Halves,
-    xs: &[Fe],
-    ys: &[Fe],
-    k: usize,
+    problem: &Problem,
     out: &mut Poly,
 ) -> bool
-    requires distinct { AreDistinct xs.now }
-    requires pairs { length xs.now ≡ length ys.now }
-    requires some { 1 ≤ k }
     requires sample { length sample_ys.old ≡ length sample_xs.old }
-    requires sample_threshold { k ≤ length sample_xs.old }
-    requires threshold { k ≤ length xs.now }
+    requires sample_threshold { problem.now.k ≤ length sample_xs.old }
     requires rooms { HaveRoom remainders.old (length remainders.old.upper) }
     requires sample_room { length sample_xs.old < length remainders.old.upper }
-    requires room { k ≤ length out.old }
+    requires room { problem.now.k ≤ length out.old }
     ensures rooms { HaveRoom remainders.new (length remainders.old.upper) }
     ensures room { length out.new ≡ length out.old }
-    ensures found { IsTrue result → IsDecoded out.new xs.now ys.now k }
+    ensures found { IsTrue result → Solves out.new problem.now }
 {
-    if !take_sample(sample_xs, sample_ys, xs, ys) {
+    if !take_sample(sample_xs, sample_ys, problem.xs, problem.ys) {
         return false;
     }
-    if !decode_by_halving(remainders, halves, sample_xs, sample_ys, k, out) {
+    let sample = Problem {
+        xs: sample_xs,
+        ys: sample_ys,
+        k: problem.k,
+    };
+    if !decode_by_halving(remainders, halves, &sample, out) {
         return false;
     }
-    is_decoded(out, xs, ys, k)
+    is_decoded(out, problem.xs, problem.ys, problem.k)
 }

@@ -1,9 +1,10 @@
 // The remainder sequence, down to the first remainder whose degree is low enough.
 ghost use Rattle.std.specs.Prelude.{◌≡◌, ◌≢◌, ℕ, ◌<◌, ◌≤◌, ◌+◌, ◌-◌, ◌*◌, ◌^◌, length, slice_index, IfOk, IfSome, IfNone};
 ghost use Rattle.field61.specs.Field.{field_product};
-ghost use Rattle.poly61.specs.Poly.{HasDegree, HasDegreeBelow, AreDistinct};
+ghost use Rattle.poly61.specs.Poly.{HasDegree, HasDegreeBelow};
 ghost use Rattle.gao_decoder.specs.Sequence.{IsTied, AreNeighbours, IsLow, IsStopped, HaveRoom};
 
+use crate::problem::Problem;
 use field61::{Fe, know_elements};
 use poly61::Poly;
 use star_io::NoMemory;
@@ -101,18 +102,17 @@ impl Remainders {
 
     /// Makes them the first two: the product of the (x - a) over the points, and the polynomial
     /// through them.
-    pub(crate) fn begin(&mut self, xs: &[Fe], ys: &[Fe])
-        requires distinct { AreDistinct xs.now }
-        requires pairs { length xs.now ≡ length ys.now }
+    pub(crate) fn begin(&mut self, problem: &Problem)
         requires rooms { HaveRoom self.old (length self.old.upper) }
-        requires room { length xs.now < length self.old.upper }
+        requires room { length problem.now.xs.now < length self.old.upper }
         ensures rooms { HaveRoom self.new (length self.old.upper) }
-        ensures start { AreNeighbours xs.now ys.now self.new.upper self.new.upper_cofactor
-            self.new.lower self.new.lower_cofactor (length xs.now) 0 }
+        ensures start { AreNeighbours problem.now.xs.now problem.now.ys.now self.new.upper self.new.upper_cofactor
+            self.new.lower self.new.lower_cofactor (length problem.now.xs.now) 0 }
     {
-        know_elements(ys);
-        self.lower.interpolate(&mut self.upper, xs, ys);
-        self.upper.vanishing(xs);
+        know_elements(problem.ys);
+        self.lower
+            .interpolate(&mut self.upper, problem.xs, problem.ys);
+        self.upper.vanishing(problem.xs);
         self.upper_cofactor.clear();
         self.lower_cofactor.clear();
         self.lower_cofactor.set_coefficient(0, Fe::ONE);
@@ -120,15 +120,16 @@ impl Remainders {
 
     /// Runs the sequence to the first lower remainder of degree below (n + k) / 2, and answers the
     /// degree of its cofactor.
-    pub(crate) fn run_down(&mut self, xs: &[Fe], ys: &[Fe], k: usize) -> usize
-        requires start { AreNeighbours xs.now ys.now self.old.upper self.old.upper_cofactor
-            self.old.lower self.old.lower_cofactor (length xs.now) 0 }
-        requires threshold { k ≤ length xs.now }
+    pub(crate) fn run_down(&mut self, problem: &Problem) -> usize
+        requires start { AreNeighbours problem.now.xs.now problem.now.ys.now self.old.upper self.old.upper_cofactor
+            self.old.lower self.old.lower_cofactor (length problem.now.xs.now) 0 }
         requires rooms { HaveRoom self.old (length self.old.upper) }
-        requires room { length xs.now < length self.old.upper }
+        requires room { length problem.now.xs.now < length self.old.upper }
         ensures rooms { HaveRoom self.new (length self.old.upper) }
-        ensures stopped { IsStopped xs.now ys.now self.new.lower self.new.lower_cofactor k result }
+        ensures stopped { IsStopped problem.now.xs.now problem.now.ys.now self.new.lower
+            self.new.lower_cofactor problem.now.k result }
     {
+        let Problem { xs, ys, k } = *problem;
         let bound = xs.len() + k;
         let mut top = xs.len();
         let mut cofactor_top = 0;

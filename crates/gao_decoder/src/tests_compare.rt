@@ -1,6 +1,7 @@
 // The ways of decoding beside each other, on points of which each number is wrong.
 ghost use Rattle.std.specs.Prelude.{◌≡◌, ◌<◌, ◌+◌, ◌^◌, ℕ, length, slice_index, IfOk};
 
+use crate::problem::Problem;
 use crate::sampling::decode_sampled;
 use crate::tests_table::points;
 use crate::whole::{decode_by_halving, decode_by_sequence};
@@ -100,19 +101,18 @@ fn agree(alloc: Global, xs: &[Fe], ys: &[Fe], k: usize) -> Result<bool, NoMemory
     let mut scratch = Scratch::new(alloc, xs.len())?;
     let mut by_sequence = Poly::with_room(alloc, k)?;
     let mut out = Poly::with_room(alloc, k)?;
-    let wanted = decode_by_sequence(&mut scratch.remainders, xs, ys, k, &mut by_sequence);
+    let problem = Problem { xs, ys, k };
+    let wanted = decode_by_sequence(&mut scratch.remainders, &problem, &mut by_sequence);
     let halved = decode_by_halving(
         &mut scratch.remainders,
         &mut scratch.halves,
-        xs,
-        ys,
-        k,
+        &problem,
         &mut out,
     );
     let same_halved = halved == wanted && are_same(&out, &by_sequence, k);
     let short = decode_short(&mut scratch, xs, ys, k, &mut out);
     let same_short = !short || wanted && are_same(&out, &by_sequence, k);
-    let sampled = decode_sampled(&mut scratch, xs, ys, k, &mut out);
+    let sampled = decode_sampled(&mut scratch, &problem, &mut out);
     let same_sampled = !sampled || wanted && are_same(&out, &by_sequence, k);
     let found = decode(&mut scratch, xs, ys, k, &mut out);
     Ok(

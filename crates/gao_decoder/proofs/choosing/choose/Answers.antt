@@ -19,14 +19,14 @@ loop-i-init c =
       within = omega arith;
       below = λ i _. c.clear.ensures.zero i;
       work_below = below;
-      chosen = chosen_none c.args.xs.now c.args.ys.now c.args.w.now c.clear.new.self work c.args.k first below;
+      chosen = chosen_none c.args.problem.now.xs.now c.args.problem.now.ys.now c.args.w.now c.clear.new.self work c.args.problem.now.k first below;
     }
 
 pub returns-clause-only : goal.returns-clause-only
 returns-clause-only c f elements below passes =
     let inv = c.loop-i.invariant in
-    let end : c.loop-i.i ≡ length c.args.xs.now = omega arith in
-    let chosen : IsChosen c.args.xs.now c.args.ys.now c.args.w.now c.loop-i.candidate c.loop-i.work (length c.args.xs.now) c.loop-i.chosen c.args.k =
-    subst (λ i. IsChosen c.args.xs.now c.args.ys.now c.args.w.now c.loop-i.candidate c.loop-i.work i c.loop-i.chosen c.args.k) end inv.chosen in
-    chosen_only c.args.xs.now c.args.ys.now c.args.w.now c.loop-i.candidate c.loop-i.work f c.loop-i.chosen c.args.k c.requires.distinct c.know_elements.ensures c.requires.many inv.within
+    let end : c.loop-i.i ≡ length c.args.problem.now.xs.now = omega arith in
+    let chosen : IsChosen c.args.problem.now.xs.now c.args.problem.now.ys.now c.args.w.now c.loop-i.candidate c.loop-i.work (length c.args.problem.now.xs.now) c.loop-i.chosen c.args.problem.now.k =
+    subst (λ i. IsChosen c.args.problem.now.xs.now c.args.problem.now.ys.now c.args.w.now c.loop-i.candidate c.loop-i.work i c.loop-i.chosen c.args.problem.now.k) end inv.chosen in
+    chosen_only c.args.problem.now.xs.now c.args.problem.now.ys.now c.args.w.now c.loop-i.candidate c.loop-i.work f c.loop-i.chosen c.args.problem.now.k c.args.problem.now.distinct c.know_elements.ensures c.requires.many inv.within
     (λ i past. inv.below i (omega (arith, inv.within))) c.know.ensures chosen elements below passes
