@@ -1,5 +1,5 @@
 -- The command of the verb `certify`.
-use Rattle.std.specs.Prelude.{◌-◌, ◌^◌, ℕ, List, [], ◌∷◌, codes, Option, option_and_then, option_map}
+use Rattle.std.specs.Prelude.{◌-◌, ◌^◌, List, [], ◌∷◌, codes, Option, option_and_then, option_map}
 use Rattle.command_words.specs.Numbers.{number_in}
 use Rattle.command_words.specs.Options.{Text, Pair, value_of}
 use Rattle.command_words.specs.declared.command.Command.{Command}

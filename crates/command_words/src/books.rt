@@ -1,6 +1,7 @@
 // The commands of the verbs `book`, `merge` and `openbook`.
-ghost use Rattle.std.specs.Prelude.{◌≡◌};
+ghost use Rattle.std.specs.Prelude.{◌≡◌, IfSome};
 ghost use Rattle.command_words.specs.Books.{book_of, merge_of, open_book_of, epoch_of};
+ghost use Rattle.command_words.specs.Words.{HasGoodOptions};
 
 use crate::command::Command;
 use crate::numbers::number_in;
@@ -9,7 +10,8 @@ use crate::workers::workers_of;
 
 /// The command `book` of the options.
 pub fn book_of(options: &Options) -> Option<Command>
-    ensures { result ≡ book_of options.now }
+    ensures command { result ≡ book_of options.now }
+    ensures good { IfSome result HasGoodOptions }
 {
     let epoch = epoch_of(options)?;
     Some(Command::Book { epoch })
@@ -17,7 +19,8 @@ pub fn book_of(options: &Options) -> Option<Command>
 
 /// The command `merge` of the options.
 pub fn merge_of(options: &Options) -> Option<Command>
-    ensures { result ≡ merge_of options.now }
+    ensures command { result ≡ merge_of options.now }
+    ensures good { IfSome result HasGoodOptions }
 {
     let epoch = epoch_of(options)?;
     Some(Command::Merge { epoch })
@@ -25,7 +28,8 @@ pub fn merge_of(options: &Options) -> Option<Command>
 
 /// The command `openbook` of the options.
 pub fn open_book_of(options: &Options) -> Option<Command>
-    ensures { result ≡ open_book_of options.now }
+    ensures command { result ≡ open_book_of options.now }
+    ensures good { IfSome result HasGoodOptions }
 {
     let epoch = epoch_of(options)?;
     let workers = workers_of(options)?;

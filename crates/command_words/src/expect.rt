@@ -1,6 +1,7 @@
 // The command of the verb `expect`.
-ghost use Rattle.std.specs.Prelude.{◌≡◌};
+ghost use Rattle.std.specs.Prelude.{◌≡◌, IfSome};
 ghost use Rattle.command_words.specs.Expect.{expect_of};
+ghost use Rattle.command_words.specs.Words.{HasGoodOptions};
 
 use crate::command::Command;
 use crate::numbers::number_in;
@@ -11,7 +12,8 @@ use report_frame::Version;
 
 /// The command of the options.
 pub fn expect_of(options: &Options) -> Option<Command>
-    ensures { result ≡ expect_of options.now }
+    ensures command { result ≡ expect_of options.now }
+    ensures good { IfSome result HasGoodOptions }
 {
     let epoch = number_in(options.value("epoch")?, 0, u32::MAX)?;
     let thresholds = thresholds_of(Version::One, options.value("thresholds")?)?;

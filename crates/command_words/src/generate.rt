@@ -1,6 +1,7 @@
 // The command of the verb `gen`.
-ghost use Rattle.std.specs.Prelude.{◌≡◌};
+ghost use Rattle.std.specs.Prelude.{◌≡◌, IfSome};
 ghost use Rattle.command_words.specs.Generate.{gen_of};
+ghost use Rattle.command_words.specs.Words.{HasGoodOptions};
 
 use crate::command::Command;
 use crate::numbers::number_in;
@@ -15,7 +16,8 @@ pub const MAX_LIARS: u32 = 100;
 
 /// The command of the options.
 pub fn gen_of(options: &Options) -> Option<Command>
-    ensures { result ≡ gen_of options.now }
+    ensures command { result ≡ gen_of options.now }
+    ensures good { IfSome result HasGoodOptions }
 {
     let number = number_in(options.value("number")?, 0, u32::MAX)?;
     let reports = number_in(options.value("reports")?, 1, MAX_REPORTS)?;

@@ -1,6 +1,7 @@
 // The command of the verb `make`.
-ghost use Rattle.std.specs.Prelude.{◌≡◌};
+ghost use Rattle.std.specs.Prelude.{◌≡◌, IfSome};
 ghost use Rattle.command_words.specs.Make.{make_of};
+ghost use Rattle.command_words.specs.Words.{HasGoodOptions};
 
 use crate::command::Command;
 use crate::numbers::number_in;
@@ -12,7 +13,8 @@ use report_frame::Version;
 
 /// The command of the options.
 pub fn make_of(options: &Options) -> Option<Command>
-    ensures { result ≡ make_of options.now }
+    ensures command { result ≡ make_of options.now }
+    ensures good { IfSome result HasGoodOptions }
 {
     let epoch = number_in(options.value("epoch")?, 0, u32::MAX)?;
     let version = match options.value("version") {

@@ -1,5 +1,5 @@
 // The numbers of the command line.
-ghost use Rattle.std.specs.Prelude.{◌≡◌};
+ghost use Rattle.std.specs.Prelude.{◌≡◌, ◌≤◌, IfSome};
 ghost use Rattle.std.specs.Char.{is_ascii_digit};
 ghost use Rattle.std.specs.List.{list_all};
 ghost use Rattle.command_words.specs.Numbers.{is_number, number_in};
@@ -23,7 +23,8 @@ fn is_number(text: &str) -> bool
 
 /// The number of a text, where it is one from `low` to `high`.
 pub fn number_in(text: &str, low: u32, high: u32) -> Option<u32>
-    ensures { result ≡ number_in low high text.now }
+    ensures number { result ≡ number_in low high text.now }
+    ensures range { IfSome result (λ number. (low ≤ number) × (number ≤ high)) }
 {
     if !is_number(text) {
         return None;

@@ -1,6 +1,7 @@
 // The thresholds of a command.
-ghost use Rattle.std.specs.Prelude.{◌≡◌, ◌<◌, ◌≤◌, ◌++◌, ◌∷◌, [], length};
+ghost use Rattle.std.specs.Prelude.{◌≡◌, ◌<◌, ◌≤◌, ◌++◌, ◌∷◌, [], length, IfSome};
 ghost use Rattle.command_words.specs.Thresholds.{thresholds_of};
+ghost use Rattle.report_frame.specs.Thresholds.{AreThresholds};
 ghost use Rattle.report_frame.specs.Versions.{max_layers};
 ghost use Rattle.report_frame.specs.declared.limits.TheConstants.{MAX_LAYERS};
 
@@ -58,7 +59,8 @@ impl Thresholds {
 /// The thresholds of a text, where its parts between commas are thresholds of this version, and no
 /// more than a report of it has layers.
 pub fn thresholds_of(version: Version, text: &str) -> Option<Thresholds>
-    ensures { result ≡ thresholds_of version text.now }
+    ensures thresholds { result ≡ thresholds_of version text.now }
+    ensures good { IfSome result (AreThresholds version) }
 {
     let most = max_layers(version);
     let high = version.max_threshold();

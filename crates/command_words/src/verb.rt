@@ -1,7 +1,8 @@
 // The verbs: the word of each, the names of its options, and the command that its options give.
-ghost use Rattle.std.specs.Prelude.{◌≡◌};
+ghost use Rattle.std.specs.Prelude.{◌≡◌, IfSome};
 ghost use Rattle.command_words.specs.Options.{texts_of};
 ghost use Rattle.command_words.specs.Verb.{verb_of, names_of, command_by};
+ghost use Rattle.command_words.specs.Words.{HasGoodOptions};
 
 use crate::books::{book_of, merge_of, open_book_of};
 use crate::certify::certify_of;
@@ -98,7 +99,8 @@ impl Verb {
 
     /// The command that its options give.
     pub fn command(self, options: &Options) -> Option<Command>
-        ensures { result ≡ command_by self options.now }
+        ensures command { result ≡ command_by self options.now }
+        ensures good { IfSome result HasGoodOptions }
     {
         match self {
             Verb::Check => Some(Command::Check),

@@ -8,8 +8,8 @@ pub returns-in_default : goal.returns-in_default
 returns-in_default c =
     absurd (c.in_default.not-Ok _ (number-parsed c.args.text.now c.parse.result c.parse.ensures.value.0 (sym c.is_number.ensures ∙ c.if-not-is_number.false)))
 
-pub returns : goal.returns
-returns c =
+pub returns-clause-number : goal.returns-clause-number
+returns-clause-number c =
     let number : is_number c.args.text.now ≡ true = sym c.is_number.ensures ∙ c.if-not-is_number.false in
     let parsed = number-parsed c.args.text.now c.parse.result c.parse.ensures.value.0 number in
     let is : c.in-Ok.number ≡ digits_value 10 c.args.text.now = cc (sym c.in-Ok.is ∙ parsed) in
