@@ -55,10 +55,15 @@ def _refuse_other_format(base, path):
         raise OtherFormat(f"{os.path.basename(path)} has format {found}, and this program writes {FORMAT}")
 
 
+def _is_empty(base):
+    """Whether the file has no tables yet, as after a loss of power at its first moment."""
+    return base.execute("PRAGMA user_version").fetchone() == (0,) and not base.execute("SELECT 1 FROM sqlite_master").fetchone()
+
+
 def _make(base, tables, terms):
     """Makes the tables in one transaction, unless they are there."""
     base.execute("BEGIN IMMEDIATE")
-    if base.execute("PRAGMA user_version").fetchone() == (0,) and not base.execute("SELECT 1 FROM sqlite_master").fetchone():
+    if _is_empty(base):
         for statement in filter(str.strip, tables.split(";")):
             base.execute(statement)
         if terms is not None:
@@ -100,6 +105,8 @@ def opened_to_read(path):
     base = sqlite3.connect(f"file:{urllib.parse.quote(path)}?{mode}", uri=True, timeout=30)
     try:
         base.execute("PRAGMA query_only = 1")
+        if _is_empty(base):
+            raise FileNotFoundError(path)
         _refuse_other_format(base, path)
         yield base
     finally:

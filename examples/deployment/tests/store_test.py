@@ -131,6 +131,13 @@ class Keeping(Folder):
         with self.assertRaises(store.OtherFormat):
             put(self.writer(), fake(1))
 
+    def test_a_file_of_nothing(self):
+        """As after a loss of power before the first commit: there is nothing to read, and the writer goes on."""
+        open(store.path_of(self.folder, EPOCH), "wb").close()
+        self.assertEqual((store.count(self.folder, EPOCH), store.terms(self.folder, EPOCH)), (0, None))
+        self.assertEqual(put(self.writer(), fake(2)), {"new": 2})
+        self.assertEqual(len(self.kept()), 2)
+
     def test_one_writer(self):
         self.writer()
         with self.assertRaises(writer.OtherWriter):
