@@ -13,7 +13,6 @@ import unittest
 import support
 import frames
 import store
-import weeks
 from support import Collector, body_of, configured
 
 PORT = 18_093
@@ -185,6 +184,25 @@ class Faults(unittest.TestCase):
     def complained_clock(self, one):
         self.assertIn("not kept: clock: WrongClock : the clock is before epoch", one.lines())
         self.assertIn("not kept: clock: WrongClock : the clock is 364 days after the last heartbeat", one.lines())
+
+
+class Reports(unittest.TestCase):
+    def test_overdue_reports_show(self):
+        """A closed epoch with reports is overdue until its text is there; a preview or another file is no text."""
+        with Collector(PORT) as one:
+            one.post(DATA[:1])
+            closed = EPOCH - 3
+            store.open_to_write(store.path_of(one.store, closed), store.EPOCH_TABLES, support.configuration.read(configured()).of(closed)).close()
+            self.assertEqual([one.metric(name) for name in ("star_reports_overdue", "star_report_last_epoch")], [1, 0])
+            for name in (f"{closed}.txt.new", "preview.txt", f"{closed}.html"):
+                open(os.path.join(one.pages, name), "wb").close()
+            self.assertEqual(one.metric("star_reports_overdue"), 1)
+            open(os.path.join(one.pages, f"{closed}.txt"), "wb").close()
+            self.assertEqual([one.metric(name) for name in ("star_reports_overdue", "star_report_last_epoch")], [0, closed])
+            self.assertLess(abs(one.metric("star_report_time_seconds") - time.time()), 60)
+            one.stop()
+            one.start()
+            self.assertEqual(one.metric(f'star_epoch_reports{{epoch="{EPOCH}"}}'), 1)     # before any report since the start
 
 
 class Writers(unittest.TestCase):
