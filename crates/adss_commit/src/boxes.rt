@@ -21,8 +21,8 @@ pub fn box_value(version: Version, key: &Key, value: &Value) -> Value
     Value::of(front).unwrap()
 }
 
-/// The value in the head's box, where its context at this place gives back the key, the tag and the
-/// check; `None` where one of the three differs.
+/// The value in the head's box, if its context at this place gives back the key, the tag and the
+/// check; `None` if one of the three differs.
 pub fn open_value(
     key: &Key,
     head: &Head,

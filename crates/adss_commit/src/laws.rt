@@ -46,7 +46,7 @@ pub fn own_value()
         ≡ Some c.value }
 {}
 
-/// A value is opened exactly where its context gives the key, the tag and the check back.
+/// A value is opened exactly if its context gives the key, the tag and the check back.
 #[tactic(auto, using(crate::proofs::Honest::opened_exactly))]
 pub fn opened_exactly()
     ensures { (key : Key) (head : Head) (parent : List ℕ) (epoch level : ℕ) →

@@ -53,7 +53,7 @@ fn values_behind(key: &[u8; 32], powers: usize, x: Fe) -> [Fe; 3]
     behind
 }
 
-// The same from the first power of a block on, where `behind` has them from the next block on.
+// The same from the first power of a block on, if `behind` has them from the next block on.
 fn values_from_block(key: &[u8; 32], block: usize, powers: usize, x: Fe, behind: [Fe; 3]) -> [Fe; 3]
     requires within { BLOCK_POWERS * block < powers }
     requires few { powers < MAX_THRESHOLD_TWO }

@@ -42,7 +42,7 @@ impl From<NoMemory> for TableError {
 /// The table of version 1 whose rows are the records of comma-separated text, each with `width`
 /// cells of 1 to 64 bytes.
 ///
-/// `NoMemory` answers each error of the reader of `csv`, whatever caused it.
+/// Each error of the reader of `csv` is returned as `NoMemory`, whatever caused it.
 pub fn read_table(alloc: Global, bytes: &[u8], width: usize) -> Result<Table, TableError>
     requires some { 1 ≤ width }
     requires few { width ≤ max_layers One }
@@ -91,7 +91,7 @@ fn read_rows(alloc: Global, records: &mut Reader<&[u8]>, width: usize) -> Result
     Ok(table)
 }
 
-// Why there is no table, where this is the first bad place and its record was just taken.
+// Why there is no table, if this is the first bad place and its record was just taken.
 pub(crate) fn refusal(
     records: &mut Reader<&[u8]>,
     record: &mut ByteRecord,

@@ -14,9 +14,9 @@ use report_frame::Table2;
 use std::alloc::Global;
 
 /// The table of version 2 whose rows are the records of comma-separated text, each with `width`
-/// cells of 1 to 64 bytes and behind them one of 0 to 255 extra bytes.
+/// cells of 1 to 64 bytes, followed by one of 0 to 255 extra bytes.
 ///
-/// `NoMemory` answers each error of the reader of `csv`, whatever caused it.
+/// Each error of the reader of `csv` is returned as `NoMemory`, whatever caused it.
 pub fn read_table2(alloc: Global, bytes: &[u8], width: usize) -> Result<Table2, TableError>
     requires some { 1 ≤ width }
     requires few { width ≤ max_layers Two }

@@ -19,8 +19,8 @@ pub(crate) fn records_of(alloc: Global, bytes: &[u8]) -> Reader<&[u8]>
         .from_reader(alloc, bytes)
 }
 
-// Takes the next record, and says whether there was one. Each error of the reader is want of
-// memory here.
+// Takes the next record, and returns whether there was one. Each error of the reader counts as
+// lack of memory.
 pub(crate) fn next_record(
     records: &mut Reader<&[u8]>,
     into: &mut ByteRecord,

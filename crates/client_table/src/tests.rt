@@ -13,7 +13,7 @@ fn reads(alloc: Global, text: &[u8], rows: &[[&[u8]; 2]]) -> bool {
     }
 }
 
-// Whether each of these rows stands at its place in the table.
+// Whether each of these rows is at its place in the table.
 fn has_rows(table: &Table, rows: &[[&[u8]; 2]]) -> bool {
     for (i, row) in rows.iter().enumerate() {
         if i >= table.len() {
@@ -121,7 +121,7 @@ fn the_first_bad_place_is_found(rt: HostRuntime) {
     }
 }
 
-// So many lines of two cells behind a first line.
+// So many lines of two cells after a first line.
 fn lines(alloc: Global, first: &[u8], count: usize) -> Result<Vec<u8>, AllocError> {
     let mut text = Vec::from_slice(alloc, first)?;
     for _ in 0..count {

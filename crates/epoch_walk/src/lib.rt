@@ -1,5 +1,5 @@
-//! One stream with reports of many epochs: what the reports of each epoch tell, as if they came
-//! alone.
+//! One stream with reports of many epochs: what the reports of each epoch reveal, as if there were
+//! no others.
 //!
 //! `specs/` says it by filters of the list of records, in files that are read in this order: Parts,
 //! Epochs, Standing. `laws` has what follows.

@@ -1,7 +1,7 @@
 use layer_walk::Revealed;
 use tag_groups::Listed;
 
-/// What the reports of one epoch tell.
+/// What the reports of one epoch reveal.
 #[derive(Drop)]
 pub struct EpochPart {
     pub epoch: u32,
@@ -9,5 +9,5 @@ pub struct EpochPart {
     pub reveal: Revealed,
 }
 
-/// A list of epochs with what their reports tell.
+/// A list of epochs with what their reports reveal.
 pub type EpochParts = Listed<EpochPart>;

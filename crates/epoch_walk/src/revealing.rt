@@ -1,4 +1,4 @@
-// What the walks of the epochs tell.
+// What the walks of the epochs reveal.
 ghost use Rattle.std.specs.Prelude.{◌≡◌, ◌≤◌, List, map, All, IfOk};
 ghost use Rattle.std.specs.BTreeMap.{keys};
 ghost use Rattle.star_io.specs.declared.record.Record.{Record};
@@ -15,7 +15,7 @@ use std::alloc::Global;
 use std::collections::BTreeMap;
 use std::thread::Threads;
 
-/// What the records of each epoch tell, one epoch after the other. The groups of each level are
+/// What the records of each epoch reveal, one epoch after the other. The groups of each level are
 /// opened by so many workers.
 pub(crate) fn parts_of<R: Threads + Sync, G: Gate>(
     rt: &R,

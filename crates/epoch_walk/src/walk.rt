@@ -1,4 +1,4 @@
-// Records of many epochs that are taken as they come, and what they tell.
+// Records of many epochs that are taken as they arrive, and what they reveal.
 ghost use Rattle.std.specs.Prelude.{◌≡◌, ◌≤◌, ◌<◌, ◌+◌, ◌-◌, ◌^◌, ◌++◌, ◌∷◌, [], List, IfOk, OnOk, OnErr};
 ghost use Rattle.star_io.specs.declared.record.Record.{Record};
 ghost use Rattle.recovery_pool.specs.declared.limits.TheConstants.{MAX_WORKERS};
@@ -74,9 +74,9 @@ impl EpochWalk {
         Ok(())
     }
 
-    /// What the records that were taken tell: for each epoch what its reports tell, as if they came
-    /// alone. The groups of each level are opened by so many workers, and each passes the gate
-    /// first.
+    /// What the records that were taken reveal: for each epoch what its reports reveal, as if there
+    /// were no others. The groups of each level are opened by so many workers, and each passes the
+    /// gate first.
     pub fn finish<R: Threads + Sync, G: Gate>(
         self,
         rt: &R,

@@ -32,7 +32,7 @@ impl Fe {
 
     pub const ONE: Fe = Fe { value: 1 };
 
-    /// The element that is this number. `None` where the number is at or above the modulus, so
+    /// The element that is this number. `None` if the number is at or above the modulus, so
     /// that no element has a second spelling.
     pub fn new(n: u64) -> Option<Fe>
         ensures below { IsSome result ↔ (n < MODULUS) }
@@ -139,7 +139,7 @@ impl Fe {
 }
 
 /// Makes it known in proofs that each number of a slice is below the modulus. A proof about
-/// elements in a slice has no such bound before this call, and nothing else comes of it.
+/// elements in a slice has no such bound before this call, which does nothing else.
 pub fn know_elements(elements: &[Fe])
     ensures { AreElements elements.now }
 {

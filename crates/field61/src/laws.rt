@@ -10,7 +10,7 @@ ghost use Rattle.field61.specs.Prime.{IsPrime, HasWitness, product_of};
 
 use crate::element::Fe;
 
-/// The numbers behind the names. Its result is ZERO and ONE.
+/// The numbers that the names stand for. Its result is ZERO and ONE.
 pub fn limits() -> (Fe, Fe)
     ensures modulus { MODULUS ≡ 2305843009213693951 }
     ensures zero { result.0 ≡ 0 }
@@ -46,7 +46,7 @@ pub fn one_inverse()
     ensures { (a : ℕ) → a < MODULUS → (a ≡ 0 → ⊥) → HasOneInverse MODULUS field_product a }
 {}
 
-/// Where a product is 0, a factor is.
+/// If a product is 0, one of its factors is.
 pub fn no_zero_divisors()
     ensures { (a b : ℕ) → a < MODULUS → b < MODULUS → field_product a b ≡ 0 → (a ≡ 0) ⊎ (b ≡ 0) }
 {}

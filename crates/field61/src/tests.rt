@@ -2,7 +2,7 @@ use super::*;
 use std::test::Fail;
 
 // In each row: two numbers, their sum, difference, the negative of the first, the product, the
-// first to the power of the second, and the inverse of the first, or 0 where there is none.
+// first to the power of the second, and the inverse of the first, or 0 if there is none.
 // Python's integers gave them.
 const INTEGERS: [[u64; 8]; 11] = [
     [0, 0, 0, 0, 0, 0, 1, 0],

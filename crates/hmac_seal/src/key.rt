@@ -20,7 +20,7 @@ pub(crate) fn block_key(key: &[u8]) -> [u8; BLOCK_BYTES]
     }
 }
 
-// The bytes, and zeros behind them, as one block.
+// The bytes, padded with zeros to one block.
 fn zero_filled(front: &[u8]) -> [u8; BLOCK_BYTES]
     requires { length front.now ≤ BLOCK_BYTES }
     ensures { result ≡ front.now ++ replicate (BLOCK_BYTES - length front.now) 0 }

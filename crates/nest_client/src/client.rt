@@ -8,12 +8,12 @@ use report_frame::{NONCE_BYTES, Version};
 
 /// Who reports, when, and in which version.
 ///
-/// A seed and a number make one report: another one wants another seed or number.
+/// A seed and a number make one report: another report needs another seed or number.
 #[derive(Clone, Copy, Debug)]
 pub struct Client {
     pub version: Version,
     pub epoch: u32,
-    /// What the coins of all clients come from.
+    /// What the coins of all clients are derived from.
     pub seed: [u8; 32],
     /// Which of them this one is.
     pub number: u32,

@@ -1,4 +1,4 @@
-// What stands before the body in a frame, and how it is spelled without memory.
+// What is before the body in a frame, and how it is encoded without allocating memory.
 ghost use Rattle.std.specs.Prelude.{◌≡◌, ◌≤◌, ◌<◌, ◌+◌, ◌++◌, ◌^◌, length};
 ghost use Rattle.report_frame.specs.Format.{spelling};
 ghost use Rattle.report_frame.specs.Frame.{frame, front_entries};

@@ -1,4 +1,4 @@
-// The frame of one layer, made in its place: the body stands there before, as plain bytes.
+// The frame of one layer, made in place: its body is there already, as plain bytes.
 ghost use Rattle.std.specs.Prelude.{◌≡◌, ◌≤◌, ◌<◌, ◌+◌, ◌-◌, ◌++◌, ◌^◌, length, take, drop, slice_range};
 ghost use Rattle.hmac_seal.specs.Hmac.{hmac_sha256};
 ghost use Rattle.report_frame.specs.Frame.{IsFrame, sealed_part};
@@ -18,9 +18,9 @@ use field61::Fe;
 use hmac_seal::hmac;
 use report_frame::{FRONT_BYTES, Head, NONCE_BYTES, SEAL_BYTES, Value};
 
-/// Makes the frame of a client's report of this context around the plain body that stands in its
-/// place. The first number of the share is raised by the shift. What the context derives is handed
-/// in, as the caller has it.
+/// Makes the frame of a client's report of this context around the plain body that is already in
+/// its place. The first number of the share is raised by the shift. The caller passes what is
+/// derived from the context, since it has it.
 pub(crate) fn write_layer(
     frame: &mut [u8],
     reporter: &Reporter,
@@ -127,7 +127,7 @@ fn put_first(frame: &mut [u8], bytes: &[u8])
     frame[..bytes.len()].copy_from_slice(bytes);
 }
 
-// Puts the seal of what stands before it last.
+// Appends the seal of what is before it.
 fn put_seal(frame: &mut [u8], key: &[u8; 32])
     requires { SEAL_BYTES ≤ length frame.old }
     ensures { let part = take (length frame.old - SEAL_BYTES) frame.old in frame.new

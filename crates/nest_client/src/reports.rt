@@ -49,8 +49,7 @@ pub fn build(
 }
 
 /// As [`build`], with the first number of the share in layer 0 raised by the shift, and the seal
-/// made over that: a report that is good by itself, and whose share is wrong where the shift isn't
-/// 0.
+/// made over that: a report that is good by itself, and whose share is wrong if the shift isn't 0.
 pub fn build_shifted(
     alloc: Global,
     values: &[Value],
@@ -109,7 +108,7 @@ pub fn build2(
     made(alloc, sender, values, thresholds, extra, Fe::ZERO)
 }
 
-/// Writes the report of a client in its place, with no memory taken: the frame of layer 0, with the
+/// Writes the report of a client in place, without allocating memory: the frame of layer 0, with the
 /// extra bytes in the last layer. Those are for version 2.
 pub fn write_report(
     frame: &mut [u8],

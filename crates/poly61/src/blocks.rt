@@ -8,7 +8,7 @@ ghost use Rattle.poly61.specs.Blocks.{ArePowers, IsBlend, AddsProduct, product_a
 use crate::coefficients::places_of;
 use field61::{Fe, sum_of_products, sum_of_two};
 
-/// Makes them 1, x, .. x^31, and answers x^32.
+/// Makes them 1, x, .. x^31, and returns x^32.
 pub fn fill_powers(powers: &mut [Fe], x: Fe) -> Fe
     requires { length powers.old ≡ 32 }
     ensures powers { ArePowers powers.new x }
@@ -49,7 +49,7 @@ pub(crate) fn value_in_blocks(
     sum
 }
 
-/// Makes it c · itself + d · other, and answers how many places count then.
+/// Makes it c · itself + d · other, and returns how many places count then.
 pub(crate) fn blend_all(
     coefficients: &mut [Fe],
     places: usize,
@@ -119,7 +119,7 @@ fn column(f: &[Fe], n: usize, g: &[Fe], m: usize, reversed: &[Fe], t: usize) -> 
     sum_of_products(f, low, reversed, m + low - (t + 1), high - low)
 }
 
-/// Adds the product of two polynomials, and answers how many places count then.
+/// Adds the product of two polynomials, and returns how many places count then.
 pub(crate) fn add_product_all(
     out: &mut [Fe],
     places: usize,

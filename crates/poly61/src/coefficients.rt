@@ -53,7 +53,7 @@ pub(crate) fn copy_all(coefficients: &mut [Fe], other: &[Fe])
     }
 }
 
-/// Copies a run of coefficients, and answers how many places count then.
+/// Copies a run of coefficients, and returns how many places count then.
 pub(crate) fn copy_run(coefficients: &mut [Fe], run: &[Fe]) -> usize
     requires elements { AreElements run.now }
     requires room { length run.now ≤ length coefficients.old }
@@ -66,7 +66,7 @@ pub(crate) fn copy_run(coefficients: &mut [Fe], run: &[Fe]) -> usize
     places_of(coefficients, run.len())
 }
 
-/// Multiplies by (x - a), where these places hold the product.
+/// Multiplies by (x - a), if these places hold the product.
 pub(crate) fn times_linear_all(coefficients: &mut [Fe], places: usize, a: Fe)
     requires elements { AreElements coefficients.old }
     requires within { places ≤ length coefficients.old }
@@ -83,7 +83,7 @@ pub(crate) fn times_linear_all(coefficients: &mut [Fe], places: usize, a: Fe)
     }
 }
 
-/// Divides by (x - a) with the remainder for an answer.
+/// Divides by (x - a), and returns the remainder.
 pub(crate) fn divide_all(coefficients: &mut [Fe], places: usize, a: Fe) -> Fe
     requires elements { AreElements coefficients.old }
     requires within { places ≤ length coefficients.old }
@@ -102,7 +102,7 @@ pub(crate) fn divide_all(coefficients: &mut [Fe], places: usize, a: Fe) -> Fe
     carry
 }
 
-/// Takes off c · x^shift · other, and answers how many places count then.
+/// Subtracts c · x^shift · other, and returns how many places count then.
 pub(crate) fn take_off_all(
     coefficients: &mut [Fe],
     places: usize,

@@ -31,7 +31,7 @@ pub fn agreeing_are_equal()
         All (λ x. value f x ≡ value g x) xs → SameCoefficients f g }
 {}
 
-/// The values determine the coefficients, where there are no more places than field elements.
+/// The values determine the coefficients, if there are no more places than field elements.
 #[tactic(auto, using(crate::proofs::PolynomialLaws::values_determine))]
 pub fn values_determine()
     ensures { (f g : List ℕ) → AreElements f → AreElements g →

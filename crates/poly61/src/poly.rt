@@ -134,8 +134,7 @@ impl Poly {
         value_in_blocks(&self.coefficients, self.places, powers, top, x)
     }
 
-    /// Makes it c · itself + d · other, where there is room. It may answer true for rooms that
-    /// differ.
+    /// Makes it c · itself + d · other, if there is room. It may return true for rooms that differ.
     pub fn blend(&mut self, c: Fe, d: Fe, other: &Poly) -> bool
         ensures room { length self.new ≡ length self.old }
         ensures one_room { length other.now ≡ length self.old → IsTrue result }
@@ -157,8 +156,8 @@ impl Poly {
         true
     }
 
-    /// Adds the product of f and g, where there is room. `work` needs room for g. It may answer
-    /// true in less room, where the highest coefficients are 0.
+    /// Adds the product of f and g, if there is room. `work` needs room for g. It may return true
+    /// with less room, if the highest coefficients are 0.
     pub fn add_product(&mut self, f: &Poly, g: &Poly, work: &mut [Fe]) -> bool
         ensures room { length self.new ≡ length self.old }
         ensures fits { length f.now + length g.now ≤ length self.old + 1 →
@@ -193,7 +192,7 @@ impl Poly {
         self.places
     }
 
-    /// Makes it these places of the other one, where there is room.
+    /// Makes it these places of the other one, if there is room.
     pub(crate) fn copy_places(&mut self, other: &Poly, from: usize, to: usize) -> bool
         ensures order { IsTrue result → from ≤ to }
         ensures places { IsTrue result → (i : ℕ) → i < to - from →
@@ -209,7 +208,7 @@ impl Poly {
         true
     }
 
-    /// Adds x^shift · other, where there is room.
+    /// Adds x^shift · other, if there is room.
     pub(crate) fn add_shifted(&mut self, shift: usize, other: &Poly) -> bool
         ensures { IsTrue result → AddsShifted self.old self.new shift other.now }
     {
@@ -222,7 +221,7 @@ impl Poly {
         true
     }
 
-    /// Takes the other one off, where there is room.
+    /// Subtracts the other one, if there is room.
     pub(crate) fn subtract(&mut self, other: &Poly) -> bool
         ensures { IsTrue result → Subtracts self.old self.new other.now }
     {
@@ -234,7 +233,7 @@ impl Poly {
         true
     }
 
-    /// Multiplies by (x - a), where there is room.
+    /// Multiplies by (x - a), if there is room.
     pub fn times_linear_if_room(&mut self, a: Fe) -> bool
         ensures room { length self.new ≡ length self.old }
         ensures exactly { IsTrue result ↔ HasDegreeBelow self.old (length self.old - 1) }
@@ -249,7 +248,7 @@ impl Poly {
         true
     }
 
-    /// Makes it the polynomial 1, where there is room.
+    /// Makes it the polynomial 1, if there is room.
     pub fn become_one(&mut self) -> bool
         ensures room { length self.new ≡ length self.old }
         ensures exactly { IsTrue result ↔ 0 < length self.old }
@@ -285,7 +284,7 @@ impl Poly {
         self.places = take_off_all(&mut self.coefficients, self.places, c, shift, other);
     }
 
-    /// Divides by (x - a): it becomes the quotient, and the answer is the remainder.
+    /// Divides by (x - a): it becomes the quotient, and the remainder is returned.
     pub fn divide_linear(&mut self, a: Fe) -> Fe
         ensures room { length self.new ≡ length self.old }
         ensures remainder { result ≡ value self.old a }
@@ -340,8 +339,8 @@ impl Poly {
         }
     }
 
-    /// Brings it through one more point, and `work` to vanish there too. Where `work` vanishes
-    /// already, the values stay: this is the step of [`Poly::interpolate`].
+    /// Makes it pass through one more point, and `work` vanish there too. The values where `work`
+    /// vanishes already don't change: this is the step of [`Poly::interpolate`].
     pub fn pass_through(&mut self, work: &mut Poly, x: Fe, y: Fe)
         requires off { value work.old x ≢ 0 }
         requires room { HasDegreeBelow work.old (length self.old) }

@@ -31,7 +31,7 @@ struct Level {
 }
 
 impl ProductRoom {
-    /// Room for factors of up to n places. Larger ones are multiplied by columns, where the second
+    /// Room for factors of up to n places. Larger ones are multiplied by columns, if the second
     /// has at most as many places as `columns`.
     pub fn with_room(alloc: Global, n: usize, columns: usize) -> Result<ProductRoom, NoMemory> {
         let mut levels = Vec::new(alloc);
@@ -45,7 +45,7 @@ impl ProductRoom {
         Ok(ProductRoom { levels, reversed })
     }
 
-    /// Adds the product of f and g, where there is room.
+    /// Adds the product of f and g, if there is room.
     pub fn add(&mut self, out: &mut Poly, f: &Poly, g: &Poly) -> bool
         ensures { IsTrue result → AddsProduct out.old out.new f.now g.now }
     {
@@ -92,7 +92,7 @@ fn half_of(f: &Poly, g: &Poly) -> usize {
     most - most / 2
 }
 
-// Makes them the places below `at` and those from there on, where both are some and there is room.
+// Makes them the places below `at` and those from there on, if neither part is empty and there is room.
 fn split(f: &Poly, at: usize, low: &mut Poly, high: &mut Poly) -> bool
     ensures { IsTrue result → IsSplit f.now low.new high.new at }
 {
@@ -106,7 +106,7 @@ fn split(f: &Poly, at: usize, low: &mut Poly, high: &mut Poly) -> bool
     high.copy_places(f, at, places)
 }
 
-// Splits both factors at half of their places, and answers where.
+// Splits both factors at half of their places, and returns where.
 fn prepare(f: &Poly, g: &Poly, level: &mut Level) -> Option<usize>
     ensures first { IfSome result (λ half. IsSplit f.now level.new.f_low level.new.f_high half) }
     ensures second { IfSome result (λ half. IsSplit g.now level.new.g_low level.new.g_high half) }

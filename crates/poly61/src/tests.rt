@@ -79,7 +79,7 @@ fn a_polynomial_keeps_its_room(rt: HostRuntime) -> Result<(), NoMemory> {
     Ok(())
 }
 
-// A polynomial of this room whose first places are filled with numbers that come of a first one.
+// A polynomial of this room whose first places are filled with numbers made from a first one.
 fn filled(alloc: Global, room: usize, places: usize, first: Fe) -> Result<Poly, NoMemory> {
     let mut f = Poly::with_room(alloc, room)?;
     let mut number = first;

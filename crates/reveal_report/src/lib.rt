@@ -1,4 +1,4 @@
-//! What a stream of records tells, as printed text.
+//! What a stream of records reveals, as printed text.
 //!
 //! `specs/` has the lines: Escape says how bytes are printed, Names how refusals are, Paths how the
 //! way to an opened group is, and RevealText has the lines themselves, in their order.

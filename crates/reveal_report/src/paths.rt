@@ -21,8 +21,8 @@ pub(crate) fn push_path(text: &mut String, path: &Path) -> Result<(), AllocError
     Ok(())
 }
 
-/// Puts the text of a step last: its value, escaped, its threshold, and its version where it isn't
-/// the first.
+/// Appends the text of a step: its value, escaped, its threshold, and its version if it isn't the
+/// first.
 pub fn push_step(text: &mut String, step: &Step) -> Result<(), AllocError>
     ensures { OnOk result (string_bytes text.new ≡ string_bytes text.old ++ step_text step.now) }
 {

@@ -4,7 +4,7 @@ ghost use Rattle.std.specs.Prelude.{◌≡◌};
 ghost use Rattle.star_client_c.specs.declared.status.TheConstants.{DONE, BAD_VERSION, BAD_THRESHOLDS, BAD_VALUES, BAD_EXTRA, BAD_SEED, SMALL_BUFFER};
 ghost use Rattle.star_client_c.specs.Request.{most_bytes};
 
-/// What each answer is as a number, and how long a report of each version is at most.
+/// What each status is as a number, and how long a report of each version is at most.
 pub fn limits()
     ensures done { DONE ≡ 0 }
     ensures request { (BAD_VERSION ≡ 1) × (BAD_THRESHOLDS ≡ 2) × (BAD_VALUES ≡ 3)

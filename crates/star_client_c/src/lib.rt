@@ -15,11 +15,11 @@ use crate::request::content_of;
 use crate::status::{BAD_SEED, DONE, SMALL_BUFFER};
 use nest_client::{Client, report_bytes, write_report};
 
-/// Writes the report of a client into the front of `out`, and its length into `written`. The answer
-/// is `DONE`, or the first fault in the order of the numbers, after which nothing is written.
+/// Writes the report of a client into the front of `out`, and its length into `written`. Returns
+/// `DONE`, or the first fault in the order of the numbers; after a fault nothing is written.
 ///
-/// `cells` has a byte for each value that counts its bytes, and then these; `thresholds` one number
-/// for each value.
+/// `cells` has for each value one byte with its length, and then its bytes; `thresholds` has one
+/// number for each value.
 #[unsafe(no_mangle)]
 pub extern "C" fn star_client_report(
     version: u32,
@@ -70,9 +70,9 @@ pub extern "C" fn star_client_report(
     DONE
 }
 
-/// Writes the length of the report that `star_client_report` makes of the same into `written`. The
-/// answer is `DONE`, or the first fault in the order of the numbers, after which nothing is
-/// written.
+/// Writes the length of the report that `star_client_report` makes from the same arguments into
+/// `written`. Returns `DONE`, or the first fault in the order of the numbers; after a fault nothing
+/// is written.
 #[unsafe(no_mangle)]
 pub extern "C" fn star_client_length(
     version: u32,
@@ -98,7 +98,7 @@ pub extern "C" fn star_client_length(
     }
 }
 
-// The bytes of a seed, where there are 32.
+// The bytes of a seed, if there are 32.
 fn seed_of(bytes: &[u8]) -> Option<[u8; 32]>
     ensures found { IsSome result ↔ length bytes.now ≡ 32 }
     ensures seed { IfSome result (λ seed. seed ≡ bytes.now) }

@@ -5,7 +5,7 @@ ghost use Rattle.star_client_c.specs.Cells.{cells_of, IsValue};
 use arrayvec::ArrayVec;
 use report_frame::{MAX_LAYERS, Value};
 
-/// Puts the values of the cells last, where the cells are those of `width` values.
+/// Appends the values of the cells, if the cells are those of `width` values.
 pub(crate) fn take_cells(row: &mut ArrayVec<Value, MAX_LAYERS>, cells: &[u8], width: usize) -> bool
     requires room { length row.old.items + width ≤ MAX_LAYERS }
     ensures long { result ≡ true → length row.new.items ≡ length row.old.items + width }

@@ -1,4 +1,4 @@
-// What an export answers. Faults are looked for in the order of their numbers.
+// What an export returns. Faults are looked for in the order of their numbers.
 
 /// What was asked for is written.
 pub const DONE: u32 = 0;

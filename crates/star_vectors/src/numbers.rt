@@ -31,7 +31,7 @@ pub(crate) fn spelled(numbers: &[Fe]) -> [u8; 32]
     bytes
 }
 
-/// The coefficients of the line that is decoded from the points, spelled: zeros where none is.
+/// The coefficients of the line that is decoded from the points, spelled: zeros if there is none.
 pub(crate) fn decoded(alloc: Global, xs: &[Fe], ys: &[Fe]) -> Result<[u8; 32], NoMemory>
     requires distinct { AreDistinct xs.now }
     requires pairs { length xs.now ≡ length ys.now }

@@ -1,4 +1,4 @@
-// What a self test tells.
+// The result of a self test.
 ghost use Rattle.std.specs.Prelude.{◌≡◌, ◌≢◌, Err};
 ghost use Rattle.star_vectors.specs.Vectors.{vectors};
 ghost use Rattle.star_vectors.specs.Comparison.{first_differing, outcome_of};

@@ -1,4 +1,4 @@
-// Whether the reports of a table come in each other's way.
+// Whether the reports of a table conflict with each other.
 ghost use Rattle.std.specs.Prelude.{◌≡◌, ◌<◌, ◌≤◌, ◌↔◌, ℕ, [], length, get_or, IsTrue, IfOk};
 ghost use Rattle.report_frame.specs.Thresholds.{AreThresholds};
 ghost use Rattle.report_frame.specs.declared.version.Version.TheVariants.{One};

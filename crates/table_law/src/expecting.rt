@@ -1,4 +1,4 @@
-// What the stream of a table tells.
+// What the stream of a table reveals.
 ghost use Rattle.std.specs.Prelude.{◌≡◌, ◌<◌, ◌≤◌, ℕ, [], length, get_or, IfOk};
 ghost use Rattle.report_frame.specs.Thresholds.{AreThresholds};
 ghost use Rattle.report_frame.specs.declared.version.Version.TheVariants.{One};
@@ -17,10 +17,10 @@ use star_io::NoMemory;
 use std::alloc::Global;
 
 /// The prefixes of a table, in the order of their paths: each list of values with which a row
-/// begins, where for each of its fronts at least as many rows begin with it as the threshold of
-/// that layer says.
+/// begins, if for each of its fronts at least as many rows begin with it as the threshold of that
+/// layer says.
 ///
-/// Where the table is clear, they are the groups that the stream of its reports, row i as client i
+/// If the table is clear, they are the groups that the stream of its reports, row i as client i
 /// in version 1, reveals; nothing is refused then, and no group is without a line or has a bad
 /// value.
 pub fn expected(

@@ -1,4 +1,4 @@
-// Where a key came first.
+// Where a key occurs first.
 ghost use Rattle.std.specs.Prelude.{◌≡◌, Some, None, unwrap_or, if◌then◌else◌, IfOk, OnOk};
 ghost use Rattle.std.specs.Option.{option_or};
 ghost use Rattle.std.specs.Ordering.{is_eq};
@@ -7,7 +7,7 @@ ghost use Rattle.std.specs.BTreeMap.{get};
 use star_io::NoMemory;
 use std::collections::BTreeMap;
 
-/// The place of the first key that was equal to this one, where `next` is the place of this one.
+/// The place of the first key that was equal to this one, if `next` is the place of this one.
 pub(crate) fn first_place<K: Ord + Drop>(
     places: &mut BTreeMap<K, u32>,
     key: K,

@@ -11,7 +11,7 @@ use star_io::NoMemory;
 use std::alloc::Global;
 use std::collections::BTreeMap;
 
-/// The first row that begins with the same values as a row, and the value behind them.
+/// The first row that begins with the same values as a row, and the value after them.
 #[derive(Drop, PartialEq, Eq, PartialOrd, Ord)]
 pub(crate) struct Front {
     pub(crate) before: u32,

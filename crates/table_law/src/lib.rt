@@ -1,5 +1,5 @@
-//! What the stream of a table tells: the prefixes that enough of its rows begin with, where its
-//! reports don't come in each other's way.
+//! What the stream of a table reveals: the prefixes that enough of its rows begin with, if its
+//! reports don't conflict with each other.
 //!
 //! `specs/` has the prefixes in Prefixes, the layers of a row's report in Layers, and in Clear what
 //! two reports must not share; `laws` has what follows from them.

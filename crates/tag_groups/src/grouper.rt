@@ -1,4 +1,4 @@
-// Grouping rows as they come.
+// Grouping rows as they arrive.
 ghost use Rattle.std.specs.Prelude.{◌≡◌, ◌<◌, ◌-◌, ◌^◌, [], ◌∷◌, ◌++◌, length, is_ok, if◌then◌else◌, OnOk, OnErr, Some};
 ghost use Rattle.std.specs.BTreeMap.{Updates, IsUnchanged};
 ghost use Rattle.std.specs.List.{AllPairs};
@@ -19,8 +19,8 @@ use std::alloc::Global;
 use std::collections::BTreeMap;
 use std::marker::Model;
 
-/// Rows that are grouped as they come. The group of a row is one that was met lately, or an ordered
-/// map finds it, so no choice of heads makes it slow.
+/// Rows that are grouped as they arrive. The group of a row is a recently met one, or an ordered map
+/// finds it, so no choice of heads makes it slow.
 #[derive(Drop)]
 pub struct Grouper {
     alloc: Global,
@@ -143,8 +143,8 @@ fn join(
     }
 }
 
-// The place of the group of this rank's key: that in its slot where this group has the key, else
-// what the map says.
+// The place of the group of this rank's key: the one in its slot if that group has the key,
+// otherwise what the map says.
 fn find(
     groups: &Vec<Group>,
     places: &BTreeMap<Rank, u32>,

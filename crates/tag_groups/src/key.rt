@@ -24,8 +24,8 @@ pub(crate) fn key_of(row: &Row) -> Key
     }
 }
 
-/// A key behind the front of its tag, in which two keys mostly differ: so they are mostly compared
-/// by one number.
+/// A key after the front of its tag, in which two keys mostly differ: so they are mostly compared by
+/// one number.
 #[derive(Drop, PartialEq, Eq, PartialOrd, Ord)]
 pub(crate) struct Rank {
     pub(crate) front: u64,

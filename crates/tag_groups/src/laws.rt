@@ -36,7 +36,7 @@ pub fn points_left()
     ensures few { (points : List Point) → length (points_left_of points) ≤ length points }
 {}
 
-/// Neither the order of points nor how often one stands there counts.
+/// Neither the order of points nor how often one occurs counts.
 #[tactic(auto, using(crate::proofs::LeftLaws::same_left))]
 pub fn same_points_left()
     ensures { (xs ys : List Point) → SameElements xs ys → points_left_of xs ≡ points_left_of ys }

@@ -17,8 +17,7 @@ use std::alloc::Global;
 /// A list of points.
 pub type Points = Listed<Point>;
 
-/// Each point once that a member has, where no member has the same x with another y, in ascending
-/// x.
+/// Each point that a member has, once, if no member has the same x with another y, in ascending x.
 pub fn points_left(alloc: Global, rows: &[Row], group: &Group) -> Result<Points, NoMemory>
     requires { All (λ place. place < length rows.now) group.now.members }
     ensures points { IfOk result (λ points. points

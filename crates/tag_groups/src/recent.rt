@@ -1,14 +1,14 @@
-// The places of the groups that were met lately.
+// The places of recently met groups.
 use std::alloc::Global;
 
 // The number of slots.
 const SLOTS: usize = 1024;
 
-// So many rows come before there are slots, so that few rows take little memory.
+// There are slots only after so many rows, so that few rows take little memory.
 const FEW_ROWS: u32 = 1024;
 
 /// A slot for each value of the low bits of a front, with the place last put there, which may be
-/// that of another group or of none: who asks compares. At first there are no slots.
+/// that of another group or of none: the caller compares. At first there are no slots.
 #[derive(Drop)]
 pub(crate) struct Recent {
     slots: Vec<u32>,
@@ -22,8 +22,8 @@ impl Recent {
         }
     }
 
-    /// Makes the slots, each with place 0, before the row of this number, where enough rows have
-    /// come: none, where memory is refused.
+    /// Makes the slots, each with place 0, before the row of this number, if there were enough rows:
+    /// none if memory is refused.
     pub(crate) fn grow(&mut self, alloc: Global, row: u32) {
         if row != FEW_ROWS {
             return;
@@ -33,12 +33,12 @@ impl Recent {
         }
     }
 
-    /// The place in the slot of this front, and 0 where there are no slots.
+    /// The place in the slot of this front, and 0 if there are no slots.
     pub(crate) fn place(&self, front: u64) -> u32 {
         self.slots.get(slot_of(front)).copied().unwrap_or(0)
     }
 
-    /// Puts the place into the slot of this front, where there are slots.
+    /// Puts the place into the slot of this front, if there are slots.
     pub(crate) fn put(&mut self, front: u64, place: u32) {
         if let Some(slot) = self.slots.get_mut(slot_of(front)) {
             *slot = place;

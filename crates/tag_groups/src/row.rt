@@ -13,8 +13,8 @@ use report_frame::{Fault, FrameView, Head, decode_view};
 use star_io::Bytes;
 use std::marker::Model;
 
-/// A report of a level: the number of its record, the number of the group of the level before that
-/// it came out of, and its frame.
+/// A report of a level: the number of its record, the number of the group of the level before in
+/// which it was nested, and its frame.
 #[derive(Drop)]
 pub struct Row {
     index: u32,
@@ -40,10 +40,10 @@ pub struct BadRow {
 }
 
 impl Row {
-    /// A row of these bytes where they are a frame. Else they are handed back with their fault.
+    /// A row of these bytes if they are a frame. Otherwise they are returned with their fault.
     pub fn new(index: u32, parent: u32, frame: Bytes) -> Result<Row, BadRow>
         ensures row { result ≡ row_from index parent frame }
-        // Ok comes exactly where the bytes are a frame, and the row has its report.
+        // Ok is returned exactly if the bytes are a frame, and the row has its report.
         ensures frame { IfOk result (λ row. IsFrame row.report frame) }
         ensures decoded { IfOk result (λ row. decoded frame ≡ Ok row.report) }
         ensures only { (r : Fields) → IsFrame r frame → IsOk result }
@@ -79,7 +79,7 @@ impl Row {
         self.index
     }
 
-    /// The number of the group of the level before that it came out of, and 0 at level 0.
+    /// The number of the group of the level before in which it was nested, and 0 at level 0.
     pub fn parent(&self) -> u32
         ensures { result ≡ self.now.parent }
     {
