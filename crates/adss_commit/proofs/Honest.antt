@@ -121,7 +121,7 @@ opens_at : (key : Key) (head : Head) (parent : List ℕ) (epoch level : ℕ) (b 
 opens_at key head parent epoch level true sound complete = ((λ _. sound refl, λ _. refl), refl)
 opens_at key head parent epoch level false sound complete = ((λ e. absurd (false≢true e), λ o. absurd (false≢true (complete o))), tt)
 
--- the function answers exactly where the head opens, with the value in its box
+-- the function gives a value exactly if the head opens, and then the one in its box
 pub opened_exactly : (key : Key) (head : Head) (parent : List ℕ) (epoch level : ℕ)
     → (IsSome (opened_value key head parent epoch level) ↔ Opens key head parent epoch level)
     × IfSome (opened_value key head parent epoch level) (λ v. v ≡ box_of head.version key.bytes head.boxed)
@@ -141,7 +141,7 @@ same_option : (o : Option (List ℕ)) (v : List ℕ) → IsSome o → IfSome o (
 same_option (Some w) v some is = ap Some is
 same_option None v some is = absurd (false≢true some)
 
--- an answer that comes exactly where the head opens, with the value in its box, is the one of the function
+-- a result that has a value exactly if the head opens, the one in its box, is that of the function
 pub answer_is_opened : (o : Option (List ℕ)) (key : Key) (head : Head) (parent : List ℕ) (epoch level : ℕ) → IfSome o (λ v. v ≡ box_of head.version key.bytes head.boxed)
     → (IsSome o ↔ Opens key head parent epoch level) → o ≡ opened_value key head parent epoch level
 answer_is_opened o key head parent epoch level value found =

@@ -25,7 +25,7 @@ label Two = codes "STARNES2"
 unfoldable pub hashed : List ℕ → ℕ → List ℕ → List ℕ
 hashed label kind text = sha256 (label ++ kind ∷ text)
 
--- a context, spelled; its version stands in the label alone
+-- a context, spelled; its version is in the label alone
 unfoldable pub context_bytes : Context → List ℕ
 context_bytes c =
     c.parent ++ to_be_bytes w32 c.epoch ++ to_be_bytes w8 c.level ++ to_be_bytes w16 c.k ++ to_be_bytes w8 (length c.value) ++ c.value
@@ -113,7 +113,7 @@ Opens key head parent epoch level =
     let c = context_named key head parent epoch level in
     (context_key c ≡ key.bytes) × (context_tag c ≡ head.tag) × (context_check c ≡ head.check)
 
--- the value in a head's box, where the context that they name gives the key, the tag and the check back
+-- the value in a head's box, if the context that they name gives the key, the tag and the check back
 unfoldable pub opened_value : Key → Head → List ℕ → ℕ → ℕ → Option (List ℕ)
 opened_value key head parent epoch level =
     let c = context_named key head parent epoch level in

@@ -11,7 +11,7 @@ use Rattle.chacha_stream.specs.Keystream.{keystream, keystream_byte, keystream_w
 use Rattle.chacha_stream.proofs.StreamLaws.{keystream_length, split}
 use Rattle.chacha_stream.proofs.Exclusive.{xored-append, xored-longer}
 
--- the next word of the generator, and where it stands then
+-- the next word of the generator, and where it is then
 pub next_at : (key nonce : List ℕ) (counter i r : ℕ) (g next : ChaCha)
     → g ≡ generator_at key nonce counter i → (r, next) ≡ next_word 10 g → first_word nonce counter + i < 2 ^ 68
     → (r ≡ keystream_word key nonce counter i) × (next ≡ generator_at key nonce counter (i + 1))

@@ -9,7 +9,7 @@ use Rattle.client_table.specs.declared.read.TheConstants.{MAX_ROWS}
 use Rattle.client_table.proofs.Places.{row-not-bad, some-outcome}
 use Rattle.client_table.specs.BadPlace.{first_below, bad_column, bad_row, bad_place}
 
--- where none below n passes, none is found
+-- if none below n passes, none is found
 pub below_none : (test : ℕ → Bool) (n : ℕ) → ((k : ℕ) → k < n → test k ≡ false) → first_below test n ≡ None
 unfolding first_below
 below_none test zero none = refl
@@ -55,7 +55,7 @@ place_some version width rows row column bad =
     (ap is_some here) (λ k lt. ap is_some (row_none version width (get_or rows k []) (bad.before k lt))) in
     rw (found, here) refl
 
--- where there are not too many records, the place that is found is the first bad one
+-- if there are not too many records, the place that is found is the first bad one
 pub place_is : (version : Version) (width row column : ℕ) (rows : List (List (List ℕ))) → length rows ≤ MAX_ROWS → (bad_place version width rows ≡ Some (row, column)) ↔ IsBadTable version width rows row column
 place_is version width row column rows few = (
   λ is. elim (some-outcome version width rows) [
@@ -71,7 +71,7 @@ place_is version width row column rows few = (
   λ bad. place_some version width rows row column bad,
 )
 
--- and where none is found they are a table
+-- and if none is found they are a table
 pub none_is : (version : Version) (width : ℕ) (rows : List (List (List ℕ))) → length rows ≤ MAX_ROWS → (bad_place version width rows ≡ None) ↔ IsTable version width rows
 none_is version width rows few = (
   λ is. elim (some-outcome version width rows) [

@@ -1,4 +1,4 @@
--- A machine that took a record stands between two records, and took a byte for it.
+-- A machine that took a record is between two records, and took a byte for it.
 use Rattle.std.proofs.Common.{◌≡◌, ◌∙◌, ◌==◌, ◌<◌, ◌≤◌, ℕ, suc, Bool, true, false, cond, if◌then◌else◌, ◌&&◌, List, [], ◌∷◌, length, Option, Some, None, refl, sym, arith, inl, inr}
 use Rattle.std.proofs.lemmas.Bool.{cases_Bool}
 use Rattle.csv.specs.Machine.{Read, after_end, ends_at_end, ends_with, is_byte, fields_after, field_after, in_field, is_end, next_record, start_field, start_record, step}
@@ -87,7 +87,7 @@ leaves-byte cfg s fields field c rest =
       | inr goes ↦ rw goes (leaves-next_record cfg (step cfg s c).0 (fields_after (step cfg s c).1 fields field) (field_after (step cfg s c).1 c field) rest)
     ]
 
--- between two records there is none where no bytes are left
+-- between two records there is none if no bytes are left
 nothing-left : (cfg : Config) (s : State) → ends_at_end s ≡ false → next_record cfg s [] [] [] ≡ None
 unfolding next_record
 nothing-left cfg s between = rw between refl

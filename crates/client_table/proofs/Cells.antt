@@ -23,7 +23,7 @@ field-gone [] i le = refl
 field-gone (f ∷ fs) zero le = absurd (omega arith)
 field-gone (f ∷ fs) (suc i) le = field-gone fs i (omega arith)
 
--- where it has none, its length is no greater
+-- if it has none, its length is no greater
 gone-length : (cells : List (List ℕ)) (i : ℕ) → field_at cells i ≡ None → length cells ≤ i
 gone-length cells i gone = elim (cases_lt i (length cells)) [
   | inl lt ↦ let there = field-there cells i lt in let bad : None ≡ Some there.0 = sym gone ∙ there.1 in cc
@@ -36,14 +36,14 @@ missing-cell version width c cells gone lt =
     let bad : nat_lt c (cells_of version width) ≡ true = grind (arith, nat_tests) in
     ap (is_bad_cell version width c) gone ∙ bad
 
--- and at the one behind the last where there is one
+-- and at the one after the last if there is one
 pub cell-behind : (version : Version) (width : ℕ) (cells : List (List ℕ)) (cell : List ℕ) → field_at cells (cells_of version width) ≡ Some cell → is_bad_at version width cells (cells_of version width) ≡ true
 cell-behind version width cells cell there =
     let last = cells_of version width in
     let bad : ((last == last) || is_bad_length version width last (length cell)) ≡ true = grind (arith, nat_tests) in
     ap (is_bad_cell version width last) there ∙ bad
 
--- a record that is good up to its last column and has no cell behind it is a row
+-- a record that is good up to its last column and has no cell after it is a row
 pub row-ends : (version : Version) (width : ℕ) (cells : List (List ℕ)) → ((k : ℕ) → k < cells_of version width → is_bad_at version width cells k ≡ false) → field_at cells (cells_of version width) ≡ None
     → IsRow version width cells
 row-ends version width cells below gone = record {
@@ -53,7 +53,7 @@ row-ends version width cells below gone = record {
   ];
 }
 
--- a record that is good behind its last column has no cell there
+-- a record that is good after its last column has no cell there
 good-gone : (version : Version) (width : ℕ) (cells : List (List ℕ)) (o : Option (List ℕ)) → field_at cells (cells_of version width) ≡ o → is_bad_at version width cells (cells_of version width) ≡ false → o ≡ None
 good-gone version width cells None is good = refl
 good-gone version width cells (Some cell) is good =
@@ -105,14 +105,14 @@ row-value width cells row i lt =
           ],
         )
 
--- the first cells and the one behind them
+-- the first cells and the one after them
 pub take-cell : (cells : List (List ℕ)) (n : ℕ) (cell : List ℕ) → field_at cells n ≡ Some cell → take (suc n) cells ≡ take n cells ++ cell ∷ []
 unfolding field_at
 take-cell [] n cell is = cc is
 take-cell (f ∷ fs) zero cell is = ap (λ (x : List ℕ). x ∷ []) (cc is)
 take-cell (f ∷ fs) (suc n) cell is = ap (λ (t : List (List ℕ)). f ∷ t) (take-cell fs n cell is)
 
--- the first cells are all, where there is none behind them
+-- the first cells are all, if there is none after them
 pub take-gone : (cells : List (List ℕ)) (n : ℕ) → field_at cells n ≡ None → take n cells ≡ cells
 unfolding field_at
 take-gone [] zero gone = refl

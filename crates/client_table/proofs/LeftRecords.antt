@@ -21,7 +21,7 @@ enough cfg (suc n) (suc m) s xs between above_n above_m (Some p) next =
     let less = shorter cfg s xs p between next in
     rw next (ap (λ (rest : List (List (List ℕ))). p.0 ∷ rest) (enough cfg n m p.1 p.2 less.1 (omega (arith, less.0)) (omega (arith, less.0)) (next_record cfg p.1 [] [] p.2) refl))
 
--- a record that is read stands first
+-- a record that is read is the first
 first-record : (cfg : Config) (s : State) (xs : List ℕ) (p : Read) → ends_at_end s ≡ false → next_record cfg s [] [] xs ≡ Some p
     → records_from cfg (length xs + 1) s xs ≡ p.0 ∷ records_from cfg (length p.2 + 1) p.1 p.2
 unfolding records_from
@@ -29,7 +29,7 @@ first-record cfg s xs p between next =
     let less = shorter cfg s xs p between next in
     rw (add-one, next) (ap (λ (rest : List (List (List ℕ))). p.0 ∷ rest) (enough cfg (length xs) (length p.2 + 1) p.1 p.2 less.1 less.0 (omega arith) (next_record cfg p.1 [] [] p.2) refl))
 
--- there are no records where none is read
+-- there are no records if none is read
 no-record : (cfg : Config) (s : State) (xs : List ℕ) → next_record cfg s [] [] xs ≡ None → records_from cfg (length xs + 1) s xs ≡ []
 unfolding records_from
 no-record cfg s xs next = rw (add-one, next) refl
@@ -39,13 +39,13 @@ value-of : (o : Option (List ℕ)) → IsSome o → (x : List ℕ) × (o ≡ Som
 value-of None h = absurd (cc h)
 value-of (Some x) h = (x, refl)
 
--- the same, by the state and the bytes behind the record
+-- the same, by the state and the bytes after the record
 first-after : (s s2 : State) (xs ys : List ℕ) (fields : List (List ℕ)) (p : Read) → ends_at_end s ≡ false → next_record default_config s [] [] xs ≡ Some p
     → fields ≡ p.0 → p.1 ≡ s2 → p.2 ≡ ys → (records_after s (Some xs) ≡ fields ∷ records_after s2 (Some ys)) × (ends_at_end s2 ≡ false)
 first-after s s2 xs ys fields p between next is state bytes =
     rw (is, ← state, ← bytes) (first-record default_config s xs p between next, (shorter default_config s xs p between next).1)
 
--- a read that took a record leaves those behind it
+-- a read that took a record leaves those after it
 left-more : (a b : Reader (Bor (List ℕ))) (fields : List (List ℕ)) → IsBetweenRecords a → b.first ≡ true
     → ReadRecord (λ bytes. Some bytes.now) a b true fields → (left a ≡ fields ∷ left b) × IsBetweenRecords b
 unfolding Reached
@@ -76,7 +76,7 @@ pub left-found : (a b : Reader (Bor (List ℕ))) (fields : List (List ℕ)) (fou
 left-found a b fields true is first read = (left-more a b fields is first read).0
 left-found a b fields false is first read = left-none a b fields is read
 
--- and where the reader then stands
+-- and where the reader then is
 pub between-found : (a b : Reader (Bor (List ℕ))) (fields : List (List ℕ)) (found : Bool) → IsBetweenRecords a → b.first ≡ true
     → ReadRecord (λ bytes. Some bytes.now) a b found fields → found ≡ true → IsBetweenRecords b
 between-found a b fields true is first read there = (left-more a b fields is first read).1

@@ -1,4 +1,4 @@
--- The rows that were taken, and what an answer says of them.
+-- The rows that were taken, and what a result says of them.
 use Rattle.std.proofs.Common.{◌≡◌, ◌∙◌, ◌+◌, ◌<◌, ◌⊎◌, ℕ, List, [], ◌∷◌, ◌++◌, length, get_or, map, Result, Ok, Err, IfOk, IsOk, refl, ap, sym, subst, arith, inl, inr, below_more, length-append, rules}
 use Rattle.std.proofs.Math.ListN.{get_or-append}
 use Rattle.std.proofs.lemmas.List.{get_or-map, length-take, length-map}
@@ -20,7 +20,7 @@ rows-more version width n table cells long each row =
     (λ k lt. let low : k < length table = omega arith in subst (IsRow version width) (sym (get_or-append table (cells ∷ []) [] k low)) (each k lt))
     (subst (IsRow version width) (sym (ap (λ k. get_or (table ++ cells ∷ []) k []) (sym long) ∙ get_or-append_seam table cells [] [])) row)
 
--- a row stands behind those before it
+-- a row is after those before it
 row-there : (table rest : List (List (List ℕ))) (cells : List (List ℕ)) → get_or (table ++ cells ∷ rest) (length table) [] ≡ cells
 row-there table rest cells = get_or-append_seam table cells rest []
 
@@ -45,7 +45,7 @@ refused version width column all table rest cells wanted NoMemory is each bad re
 table-length : (version : Version) (width : ℕ) (rows : List (List (List ℕ))) → IsTable version width rows → (i : ℕ) → i < length rows → length (get_or rows i []) ≡ cells_of version width
 table-length version width rows table i lt = row-length version width (get_or rows i []) (table.each i lt)
 
--- so those of an answer have as many values as the table is wide
+-- so those of a result have as many values as the table is wide
 pub answer-width : (width : ℕ) (rows : List (List (List ℕ))) (answer : Result (List (List (List ℕ))) TableError) → IsAnswer One width rows rows answer
     → IfOk answer (λ table. (i : ℕ) → i < length table → length (get_or table i []) ≡ width)
 answer-width width rows (Ok table) is = λ i lt.
@@ -63,7 +63,7 @@ answer-width2 width rows (Ok table) is = λ i lt.
     ∙ omega (arith, cells, length-take width (get_or rows i []))
 answer-width2 width rows (Err error) is = search rules
 
--- a table is answered as such
+-- a table is returned as such
 pub answer-good : {Table : Type 0} (version : Version) (width : ℕ) (rows : List (List (List ℕ))) (wanted : Table) (answer : Result Table TableError) → IsAnswer version width rows wanted answer
     → IsTable version width rows → IsOk answer ⊎ (answer ≡ Err NoMemory)
 answer-good version width rows wanted (Ok table) is good = inl (search rules)

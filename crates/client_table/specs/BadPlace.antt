@@ -9,7 +9,7 @@ unfoldable pub first_below : (test : ℕ → Bool) → (n : ℕ) → Option ℕ
 first_below test zero = None
 first_below test (suc n) = option_or (first_below test n) (if test n then Some n else None)
 
--- the first column at which a record is bad: where it is good up to the one behind its last, it is good at all
+-- the first column at which a record is bad: if it is good up to the one after its last, it is good at all
 abbrev pub bad_column : Version → (width : ℕ) → List (List ℕ) → Option ℕ
 bad_column version width cells = first_below (is_bad_at version width cells) (cells_of version width + 1)
 

@@ -20,7 +20,7 @@ records_after state (Some bytes) = records_from default_config (length bytes + 1
 abbrev pub left : Reader (Bor (List ℕ)) → List (List (List ℕ))
 left reader = records_after reader.state (unread reader)
 
--- a reader with the settings of a table stands between two records
+-- a reader with the settings of a table is between two records
 pub record IsBetweenRecords (reader : Reader (Bor (List ℕ))) : Type 0 where
   pub untrimmed : reader.trim ≡ trim.None
   pub headless : Ready reader

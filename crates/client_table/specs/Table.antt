@@ -11,7 +11,7 @@ use Rattle.client_table.specs.declared.read.TheConstants.{MAX_ROWS}
 unfoldable pub table_of : List ℕ → List (List (List ℕ))
 table_of bytes = records default_config (strip_bom bytes)
 
--- a record as a row of version 2: a value in each of the first cells, and the extra bytes in the one behind them
+-- a record as a row of version 2: a value in each of the first cells, and the extra bytes in the one after them
 abbrev pub row2_of : (width : ℕ) → List (List ℕ) → List (List ℕ) × List ℕ
 row2_of width cells = (take width cells, get_or cells width [])
 
@@ -29,7 +29,7 @@ abbrev pub is_bad_length : Version → (width c : ℕ) → (size : ℕ) → Bool
 is_bad_length One width c size = (size == 0) || nat_lt MAX_VALUE size
 is_bad_length Two width c size = if c == width then nat_lt MAX_EXTRA size else (size == 0) || nat_lt MAX_VALUE size
 
--- a cell at column c is bad: it is behind the last column or of a bad length, or there is none where one is due
+-- a cell at column c is bad: it is after the last column or of a bad length, or one is due and there is none
 abbrev pub is_bad_cell : Version → (width c : ℕ) → Option (List ℕ) → Bool
 is_bad_cell version width c None = nat_lt c (cells_of version width)
 is_bad_cell version width c (Some cell) = (c == cells_of version width) || is_bad_length version width c (length cell)

@@ -1,4 +1,4 @@
--- What stands at each epoch, and the walks of the epochs.
+-- What is at each epoch, and the walks of the epochs.
 use Rattle.std.proofs.Common.{◌≡◌, ℕ, ◌<◌, arith, true, false, List, [], ◌∷◌, ◌++◌, Option, None, Some, Ok, length, refl, sym, ap, ◌∙◌, subst}
 use Rattle.std.specs.Prelude.{◌==◌, ◌≢◌, IsSome, All}
 use Rattle.std.specs.Cmp.{eq_by_cmp_equiv}
@@ -18,7 +18,7 @@ use Rattle.epoch_walk.specs.Parts.{epoch_of, is_epoch, part, epochs}
 use Rattle.epoch_walk.specs.Standing.{StandsAt, StandsForPart}
 use Rattle.epoch_walk.proofs.EpochLists.{found, in_epochs, from_epochs, part_here, part_apart}
 
--- a walk stands at each epoch that has records, and none at the others
+-- there is a walk at each epoch that has records, and none at the others
 abbrev pub StandsAtEach : List Record → BTreeMap ℕ WalkView → Type 0
 StandsAtEach records m = (e : ℕ) → StandsAt e (get nat_cmp m e) (part records e)
 
@@ -35,7 +35,7 @@ is_there e None records some h = absurd (omega (arith, ap length h))
 is_there e (Some walk) records some h = refl
 
 module _ (records : List Record) (m : BTreeMap ℕ WalkView) where
-  -- where the walks are those of the epochs
+  -- if the walks are those of the epochs
   pub stands_at_each : keys m ≡ epochs records → All (StandsForPart records) m.entries → StandsAtEach records m
   stands_at_each same all e =
       elim (get nat_cmp m e) as (λ o. get nat_cmp m e ≡ o → StandsAt e o (part records e)) [

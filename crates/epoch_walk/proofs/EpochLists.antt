@@ -19,7 +19,7 @@ use Rattle.epoch_walk.specs.Parts.{epoch_of, is_epoch, part, epochs}
 abbrev pub found : List Record → List ℕ
 found records = filter_map (λ item. result_ok (epoch_of item)) records
 
--- ---- an epoch is there where it has a record
+-- ---- an epoch is there if it has a record
 
 in_found : (e : ℕ) (records : List Record) → 0 < length (part records e) → In e (found records)
 in_found e [] h = absurd (omega arith)

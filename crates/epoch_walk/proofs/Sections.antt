@@ -46,7 +46,7 @@ module _ (records : List Record) (e : ℕ) where
 pub epochs_rise : (records : List Record) → IsStrictlySortedBy nat_cmp (epochs records)
 epochs_rise records = rising_ascending nat_cmp nat_cmp_total (found records)
 
--- an epoch is there exactly where it has records
+-- an epoch is there exactly if it has records
 pub epochs_there : (records : List Record) (e : ℕ) → Contains (epochs records) e ↔ (0 < length (part records e))
 epochs_there records e = (
   λ there. from_epochs e records (in_from_Contains (epochs records) e there),

@@ -59,7 +59,7 @@ room_at : (e : ℕ) (o : Option WalkView) (some : List Record) (most : ℕ) → 
 room_at e None some most here few = λ x is. absurd (cc)
 room_at e (Some walk) some most here few = λ x is. omega (arith, here.2.taken, let same : walk ≡ x = cc in ap (λ (w : WalkView). w.taken) same)
 
--- the walk of an epoch may take one more where the whole may
+-- the walk of an epoch may take one more if the whole may
 pub room : (taken most : ℕ) (m : BTreeMap ℕ WalkView) (lost : List Stray) (records : List Record) → StandsFor (record { taken = taken; walks = m.entries; strays = lost }) records
     → taken < most → (e : ℕ) → ForSome (get nat_cmp m e) (λ walk. walk.taken < most)
 room taken most m lost records stands few e =

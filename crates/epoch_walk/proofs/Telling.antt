@@ -1,4 +1,4 @@
--- What the walks of the epochs tell, one after the other.
+-- What the walks of the epochs reveal, one after the other.
 use Rattle.std.proofs.Common.{◌≡◌, ℕ, List, [], ◌∷◌, ◌++◌, map, sym, ap, ◌∙◌, subst, append_assoc, append-nil}
 use Rattle.std.specs.Prelude.{All}
 use Rattle.std.specs.List.{AllByRecursion}
@@ -14,7 +14,7 @@ use Rattle.epoch_walk.specs.Parts.{part}
 use Rattle.epoch_walk.specs.Epochs.{part_told}
 use Rattle.epoch_walk.specs.Standing.{StandsForPart}
 
--- what the records of these epochs tell
+-- what the records of these epochs reveal
 abbrev pub told_at : List Record → List ℕ → List EpochPart
 told_at records es = map (λ e. part_told e (part records e)) es
 
@@ -23,7 +23,7 @@ pub record AreToldSoFar (records : List Record) (all left : List (ℕ × WalkVie
   pub joined : parts ++ told_at records (keys_of left) ≡ told_at records (keys_of all)
   pub stand : AllByRecursion (StandsForPart records) left
 
--- and this for each list of records that all walks stand for
+-- and this for each list of records that all walks represent
 abbrev pub SoFar : (all left : List (ℕ × WalkView)) → List EpochPart → Type 0
 SoFar all left parts = (records : List Record) → All (StandsForPart records) all → AreToldSoFar records all left parts
 

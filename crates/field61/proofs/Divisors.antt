@@ -13,7 +13,7 @@ pub record LeastDivisor (n m : ℕ) : Type 0 where
   pub divides : m ∣ n
   pub least : (d : ℕ) → 1 < d → d ∣ n → m ≤ d
 
--- it is m or above where no divisor is below m
+-- it is m or above if no divisor is below m
 least_from : (n k m : ℕ) → m + k ≡ n → 1 < m → ((d : ℕ) → 1 < d → d ∣ n → m ≤ d) → (l : ℕ) × LeastDivisor n l
 least_from n zero m e above least = (m, record { above_one = above; divides = subst (λ (z : ℕ). m ∣ z) (let s : m ≡ n = omega arith in s) (dvd_refl m); least = least })
 least_from n (suc k) m e above least =
@@ -42,7 +42,7 @@ IsPrime-least_divisor n m l = record { above_one = l.above_one; divisors = divis
         let high : suc (suc d) ≤ m = le_of_dvd (omega arith) g in
         inr (omega arith)
 
--- a product divides where a number and a prime that doesn't divide it do
+-- a product divides if a number and a prime that doesn't divide it do
 product_divides : (a b x : ℕ) → IsPrime b → 0 < a % b → x % a ≡ 0 → x % b ≡ 0 → x % (b * a) ≡ 0
 product_divides a b x prime apart first second =
     let once : x ≡ a * (x / a) = omega (arith, div-add-mod x a) in

@@ -4,7 +4,7 @@ use Rattle.std.proofs.Math.Nat.{add-zero, add-mod, mod-mod, zero-mod, one-mul, e
 use Rattle.std.proofs.lemmas.Nat.{mul-mod_first}
 use Rattle.field61.specs.Prime.{IsPrime}
 
--- what holds of n, and with any n of r % n, holds of 1, where r is prime and n lies between
+-- what holds of n, and with any n of r % n, holds of 1, if r is prime and n lies between
 pub descent : (r : ℕ) → IsPrime r → (P : ℕ → Type 0) → ((n : ℕ) → P n → P (r % n)) → (fuel n : ℕ) → n ≤ fuel → 0 < n → n < r → P n → P 1
 descent r prime P step zero n le pos lt h = absurd (omega arith)
 descent r prime P step (suc fuel) n le pos lt h =
@@ -21,11 +21,11 @@ pub add_multiple : (x y r : ℕ) → y % r ≡ 0 → (x + y) % r ≡ x % r
 add_multiple x y r h =
     add-mod x y r ∙ ap (λ (z : ℕ). (x % r + z) % r) h ∙ ap (λ (z : ℕ). z % r) (add-zero (x % r)) ∙ mod-mod x r
 
--- a product is a multiple where its first factor is
+-- a product is a multiple if its first factor is
 pub multiple_first : (x y r : ℕ) → x % r ≡ 0 → (x * y) % r ≡ 0
 multiple_first x y r h = sym (mul-mod_first x y r) ∙ ap (λ (z : ℕ). (z * y) % r) h ∙ ap (λ (z : ℕ). z % r) (let e : 0 * y ≡ 0 = omega arith in e) ∙ zero-mod r
 
--- and where its second is
+-- and if its second is
 multiple_second : (x y r : ℕ) → y % r ≡ 0 → (x * y) % r ≡ 0
 multiple_second x y r h = ap (λ (z : ℕ). z % r) (mul_comm x y) ∙ multiple_first y x r h
 
@@ -46,7 +46,7 @@ euclid r a b prime pos h =
         split : (n : ℕ) → r % n * b + (r / n) * (n * b) ≡ r * b
         split n = let e = ap (λ (z : ℕ). z * b) (div-add-mod r n) in omega (arith, e)
 
--- equal remainders stay equal where a summand is taken away
+-- equal remainders stay equal if a summand is subtracted
 pub add_mod_cancels : (x y c r : ℕ) → 0 < r → (x + c) % r ≡ (y + c) % r → x % r ≡ y % r
 add_mod_cancels x y c r pos h = sym (past x) ∙ add-mod (x + c) (r * suc (c / r) - c) r ∙ ap (λ (z : ℕ). (z + (r * suc (c / r) - c) % r) % r) h ∙ sym (add-mod (y + c) (r * suc (c / r) - c) r) ∙ past y
   where

@@ -57,7 +57,7 @@ power_one n a prime h =
     split zero g = absurd (omega arith)
     split (suc y) g = let e : suc y - 1 ≡ y = omega arith in rw e (omega arith)
 
--- Fermat's theorem, where the remainder is not 0
+-- Fermat's theorem, if the remainder is not 0
 pub fermat_remainder : (r a : ℕ) → IsPrime r → 0 < a % r → a ^ (r - 1) % r ≡ 1
 fermat_remainder zero a prime h = let above : 1 < 0 = prime.above_one in absurd (omega arith)
 fermat_remainder (suc n) a prime h = let e : suc n - 1 ≡ n = omega arith in rw e (power_one n a prime h)

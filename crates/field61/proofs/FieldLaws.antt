@@ -135,7 +135,7 @@ pub difference_is_sum : (a b : ℕ) → field_difference a b ≡ field_sum a (fi
 unfolding field_sum field_difference field_negative
 difference_is_sum a b = sym (add-mod-mod a (MODULUS - b % MODULUS) MODULUS)
 
--- a difference is what is to be added to the second number to come to the first
+-- a difference is what is to be added to the second number to get the first
 pub sum_difference : (a b : ℕ) → a < MODULUS → field_sum b (field_difference a b) ≡ a
 sum_difference a b below =
     ap (field_sum b) (difference_is_sum a b) ∙ sum_left_commutes b a (field_negative b) ∙ ap (field_sum a) (sum_negative b) ∙ sum_zero a below

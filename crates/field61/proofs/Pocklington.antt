@@ -11,7 +11,7 @@ use Rattle.field61.proofs.Powers.{pow_reduced, pow-mul}
 use Rattle.field61.proofs.Fermat.{fermat_remainder}
 use Rattle.field61.proofs.Computed.{computed_power, computed_power_is_power}
 
--- where b to a prime q is 1 modulo a prime r, and b is not, q divides r - 1
+-- if b to a prime q is 1 modulo a prime r, and b is not, q divides r - 1
 order_divides : (q r b : ℕ) → IsPrime q → IsPrime r → b ^ q % r ≡ 1 → (b % r ≡ 1 → ⊥) → (r - 1) % q ≡ 0
 order_divides q r b q_prime r_prime power apart =
     elim (eq-zero-or-pos ((r - 1) % q)) [ inl e ↦ e | inr p ↦ absurd (apart (one p)) ]
@@ -88,7 +88,7 @@ by_recursion : (P : ℕ → Type 0) (xs : List ℕ) → All P xs → AllByRecurs
 by_recursion P [] each = tt
 by_recursion P (x ∷ xs) each = (each 0 0 (omega arith), by_recursion P xs (λ k d below. each (suc k) d (omega arith)))
 
--- a number is prime where f divides r - 1 for each prime r that divides it, and f + 1 is above its root
+-- a number is prime if f divides r - 1 for each prime r that divides it, and f + 1 is above its root
 prime_from_divisors : (n f : ℕ) → 1 < n → n < suc f * suc f → ((r : ℕ) → IsPrime r → r ∣ n → (r - 1) % f ≡ 0) → IsPrime n
 prime_from_divisors n f above root each = elim (eq-or-lt_of_le (le_of_dvd (omega arith) l.divides)) [
   | inl same ↦ subst IsPrime same (IsPrime-least_divisor n m l)

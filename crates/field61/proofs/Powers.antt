@@ -35,14 +35,14 @@ squared : (b k : ℕ) → (b * b) ^ k ≡ b ^ (k + k)
 squared b k = mul-pow b b k ∙ sym (pow-add b k k)
 
 -- A step of square and multiply keeps the product of the power so far and what is left. An even exponent is halved
--- where the base is squared,
+-- if the base is squared,
 pub halved_even : (power square rest m : ℕ) → rest % 2 ≡ 0 → (power * (square * square % m) ^ (rest / 2)) % m ≡ (power * square ^ rest) % m
 halved_even power square rest m even =
     let whole : rest / 2 + rest / 2 ≡ rest = omega arith in
     power_of_remainder power (square * square) (rest / 2) m
     ∙ ap (λ (z : ℕ). (power * z) % m) (squared square (rest / 2) ∙ ap (λ (z : ℕ). square ^ z) whole)
 
--- and an odd one too, where one factor goes to the power so far
+-- and an odd one too, if one factor goes to the power so far
 pub halved_odd : (power square rest m : ℕ) → rest % 2 ≡ 1 → ((power * square % m) * (square * square % m) ^ (rest / 2)) % m ≡ (power * square ^ rest) % m
 halved_odd power square rest m odd =
     let whole : suc (rest / 2 + rest / 2) ≡ rest = omega arith in

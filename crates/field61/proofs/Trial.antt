@@ -15,7 +15,7 @@ both : (a b : Bool) → (a && b) ≡ true → (a ≡ true) × (b ≡ true)
 both true b h = (refl, h)
 both false b h = absurd (cc)
 
--- a number that the test for 0 tells apart from it
+-- a number that the test for 0 distinguishes from it
 positive_if_not_zero : (x : ℕ) → not (x == 0) ≡ true → 0 < x
 positive_if_not_zero zero h = absurd (cc)
 positive_if_not_zero (suc x) h = omega arith

@@ -1,4 +1,4 @@
--- A frame around a body that stands in its place.
+-- A frame around a body that is in its place.
 use Rattle.std.proofs.Common.{◌≡◌, ◌∙◌, ◌<◌, ◌≤◌, ℕ, ◌+◌, ◌-◌, ◌^◌, List, [], ◌∷◌, ◌++◌, length, take, drop, get_or, set, slice_index, slice_range, refl, ap, subst, sym, append_assoc, length-append, arith}
 use Rattle.std.proofs.lemmas.List.{append-nil, take_at, take_all, drop_at, drop_all, take_more, get_or-drop, length-take, length-drop}
 use Rattle.std.proofs.lemmas.List.Sums.{sum_by-append}
@@ -14,17 +14,17 @@ use Rattle.nest_client.specs.Report.{layer, frame_of}
 use Rattle.nest_client.proofs.Held.{layer_is_frame}
 use Rattle.nest_client.proofs.Layers.{rest_is}
 
--- what stands before a body and the body are the part that is sealed
+-- what is before a body, and the body, are the part that is sealed
 pub before-body : (r : Fields) → before_body r ++ r.body ≡ sealed_part r
 before-body r = simp (append_assoc, append-nil) refl
 
--- what stands between two places after it was written there
+-- what is between two places after it was written there
 pub part_written : (xs ys : List ℕ) (s e : ℕ) → s ≤ e → e ≤ length xs → length ys ≡ e - s → slice_range (take s xs ++ (ys ++ drop e xs)) s e ≡ ys
 part_written xs ys s e order within long =
     let front : length (take s xs) ≡ s = omega (arith, length-take s xs) in
     ap (take (e - s)) (drop_at (take s xs) (ys ++ drop e xs) s front) ∙ take_at ys (drop e xs) (e - s) long
 
--- bytes that were written before a body, and a seal behind it
+-- bytes that were written before a body, and a seal after it
 pub sealed_around : (f0 f1 f2 f3 body before key : List ℕ) (s e : ℕ) → s ≤ e → e + 32 ≡ length f0 → length body ≡ e - s
     → f1 ≡ take s f0 ++ (body ++ drop e f0) → length before ≡ s → f2 ≡ before ++ drop (length before) f1
     → f3 ≡ take (length f2 - 32) f2 ++ hmac_sha256 key (take (length f2 - 32) f2) → f3 ≡ (before ++ body) ++ hmac_sha256 key (before ++ body)
@@ -69,7 +69,7 @@ each_behind P ks all i within =
     let below : 1 + i < length ks = omega (arith, ap (λ (l : List ℕ). length l) rest, length-drop 1 ks) in
     subst P (sym (ap (λ (l : List ℕ). slice_index l i) rest ∙ get_or-drop 1 ks i 0)) (all (1 + i) below)
 
--- a report around the body that stands in the place of a frame has a frame
+-- a report around the body that is in the place of a frame has a frame
 pub layer_around : (c : Client) (shift : ℕ) (x : Context) (frame : List ℕ) → x.level ≤ max_level x.version → x.epoch < 2 ^ 32 → MIN_THRESHOLD ≤ x.k → x.k ≤ max_threshold x.version
     → 1 ≤ length x.value → length x.value ≤ MAX_VALUE → FIXED_BYTES + length x.value < length frame → length frame ≤ max_frame x.version
     → IsFrame (layer c shift x (body_in frame (length x.value))) (frame_of (layer c shift x (body_in frame (length x.value))))

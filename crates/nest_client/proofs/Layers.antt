@@ -97,7 +97,7 @@ plain_is c extra level parent [] ks some width = absurd (omega arith)
 plain_is c extra level parent (v ∷ vs) [] some width = absurd (omega arith)
 plain_is c extra level parent (v ∷ vs) (k ∷ ks) some width = refl
 
--- where there are no layers it is the byte 0 and the extra bytes
+-- if there are no layers it is the byte 0 and the extra bytes
 pub last_is : (c : Client) (extra : List ℕ) (level : ℕ) (parent : List ℕ) (vs : List (List ℕ)) (ks : List ℕ) → length vs ≡ 0
     → plain_body c extra level parent vs ks ≡ 0 ∷ extra
 unfolding plain_body

@@ -23,7 +23,7 @@ more_behind (body ∷ bodies) bytes rest more all = (
   more_behind bodies all.0 rest more all.2,
 )
 
--- a record behind those of f 0, f 1 and so on
+-- a record after those of f 0, f 1 and so on
 pub one_more : (f : ℕ → List ℕ) (n : ℕ) (text next body : List ℕ) → AreRecords (whole (first_of f n)) text → length body ≤ MAX_RECORD_BYTES → body ≡ f n
     → next ≡ text ++ record_bytes body → AreRecords (whole (first_of f (n + 1))) next
 one_more f n text next body so_far short body_is next_is =

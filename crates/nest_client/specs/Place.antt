@@ -1,4 +1,4 @@
--- Where the body stands in a frame, and how long frames are.
+-- Where the body is in a frame, and how long frames are.
 use Rattle.std.specs.Prelude.{ℕ, ◌+◌, ◌-◌, List, [], ◌∷◌, ◌++◌, length, slice_range}
 use Rattle.std.specs.List.{sum_by}
 use Rattle.report_frame.specs.declared.limits.TheConstants.{FIXED_BYTES, FRONT_BYTES, NONCE_BYTES, SEAL_BYTES}
@@ -11,11 +11,11 @@ abbrev pub before_body : Fields → List ℕ
 before_body r =
     spelling frame (front_entries r ++ (Number (length r.boxed) ∷ Bytes r.boxed ∷ Bytes r.nonce ∷ Number (length r.body) ∷ []))
 
--- how many they are where the box has so many bytes
+-- how many they are if the box has so many bytes
 abbrev pub body_start : ℕ → ℕ
 body_start boxed = FRONT_BYTES + 1 + boxed + NONCE_BYTES + 2
 
--- what stands in the place of the body in a frame whose box has so many bytes
+-- what is in the place of the body in a frame whose box has so many bytes
 abbrev pub body_in : List ℕ → ℕ → List ℕ
 body_in frame boxed = slice_range frame (body_start boxed) (length frame - SEAL_BYTES)
 

@@ -81,7 +81,7 @@ context_of c level parent value k = record {
 }
 
 -- The plain body before the layers of these values and thresholds, the first of which has this level and this parent:
--- the byte 1 and the frame of that layer, or, where there is none, the byte 0 and the extra bytes.
+-- the byte 1 and the frame of that layer, or, if there is none, the byte 0 and the extra bytes.
 unfoldable pub plain_body : Client → List ℕ → ℕ → List ℕ → List (List ℕ) → List ℕ → List ℕ
 plain_body c extra level parent [] ks = 0 ∷ extra
 plain_body c extra level parent (v ∷ vs) [] = 0 ∷ extra

@@ -22,7 +22,7 @@ table_frames rows thresholds epoch seed = first_of (row_frame rows thresholds ep
 abbrev pub table_records : List (List (List ℕ)) → List ℕ → ℕ → List ℕ → List Record
 table_records rows thresholds epoch seed = whole (table_frames rows thresholds epoch seed)
 
--- the same in version 2, where a row has extra bytes beside its values
+-- the same in version 2, in which a row has extra bytes besides its values
 abbrev pub row2_frame : List (List (List ℕ) × List ℕ) → List ℕ → ℕ → List ℕ → ℕ → List ℕ
 row2_frame rows thresholds epoch seed i =
     let row = get_or rows i ([], []) in frame_of (report2 (client_of Two epoch seed i) row.1 row.0 thresholds)

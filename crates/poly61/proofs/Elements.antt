@@ -44,7 +44,7 @@ taken_back o p below = sym (difference_is_sum (field_sum o p) p ∙ sum_associat
 pub one_is_not_zero : (x : ℕ) → x ≡ 1 → x ≡ 0 → ⊥
 one_is_not_zero x one none = absurd (omega arith)
 
--- where the first factor is not 0
+-- if the first factor is not 0
 pub other_factor : (a b : ℕ) → a < MODULUS → b < MODULUS → (a ≡ 0 → ⊥) → field_product a b ≡ 0 → b ≡ 0
 other_factor a b a_below b_below nonzero none = product_cancels a b 0 a_below b_below modulus_positive nonzero (none ∙ sym (product_zero a))
 

@@ -70,7 +70,7 @@ same_from_agreement k n a c d apart a_below c_below d_below h i l =
     let many : n ≤ root_count k n e a = (let m : count_to k (λ i. eqb (value_to n c (a i)) (value_to n d (a i))) ≤ root_count k n e a = count_to-grows k _ _ (λ j _ t. eq-eqb _ 0 (at (a j) (eqb-true _ _ t))) in omega arith) in
     minus_is_zero (c i) (d i) (c_below i) (d_below i) (root_bound k n a e apart a_below (λ j. sum_below (c j) _) many i l)
 
--- where the coefficient at place d is not 0, the first d + 1 places have at most d roots
+-- if the coefficient at place d is not 0, the first d + 1 places have at most d roots
 pub few_roots : (n d : ℕ) (a c : ℕ → ℕ) → AreApart n a → IsBounded a → IsBounded c → (c d ≡ 0 → ⊥) → root_count n (suc d) c a ≤ d
 few_roots n d a c apart a_below c_below top = by (cases_lt d (root_count n (suc d) c a))
   where

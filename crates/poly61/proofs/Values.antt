@@ -33,7 +33,7 @@ TakesOff-value old new c shift other x elements taken =
     ∙ sym (ap (λ z. field_sum z (field_product (field_negative c) (field_product (field_power x shift) (value other x)))) (value-room n old x (omega arith))
     ∙ ap (λ z. field_sum (value_to n (coefficient_of old) x) (field_product (field_negative c) (field_product (field_power x shift) z))) (value-room n other x (omega arith)))
 
--- where the other vanishes, the value stays
+-- where the other vanishes, the value doesn't change
 pub TakesOff-keeps : (old new : List ℕ) (c shift : ℕ) (other : List ℕ) (x : ℕ) → AreElements old → TakesOff old new c shift other → value other x ≡ 0 → value new x ≡ value old x
 TakesOff-keeps old new c shift other x elements taken none =
     TakesOff-value old new c shift other x elements taken

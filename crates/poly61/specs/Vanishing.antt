@@ -3,7 +3,7 @@ use Rattle.std.specs.Prelude.{ℕ, ◌+◌, ◌≡◌, List, [], ◌∷◌, leng
 use Rattle.field61.specs.Field.{field_difference, field_product, AreElements}
 use Rattle.poly61.specs.Poly.{value, HasDegreeBelow}
 
--- f · (x - a) + lowest · 1, where `lowest` is the coefficient that comes below those of f
+-- f · (x - a) + lowest · 1, where `lowest` is the coefficient below those of f
 abbrev pub linear_from : ℕ → List ℕ → ℕ → List ℕ
 linear_from lowest [] a = lowest ∷ []
 linear_from lowest (c ∷ cs) a = field_difference lowest (field_product a c) ∷ linear_from c cs a

@@ -11,7 +11,7 @@ concat_numbered-push f xs x =
     ap concat (numbered_push 0 f xs x ∙ ap (λ (n : ℕ). numbered_from 0 f xs ++ f n x ∷ []) {x = 0 + length xs} {y = length xs} (omega arith))
     ∙ concat-append (numbered_from 0 f xs) (f (length xs) x ∷ []) ∙ ap (λ (l : List ℕ). concat (numbered_from 0 f xs) ++ l) (append-nil (f (length xs) x))
 
--- item i is written behind those before it
+-- item i is written after those before it
 pub concat_numbered-take_more : {X : Type 0} (f : ℕ → X → List ℕ) (xs : List X) (i : ℕ) (d : X) (before text new : List ℕ) → i < length xs → text ≡ before ++ concat (numbered_from 0 f (take i xs)) → new ≡ text ++ f i (get_or xs i d) →
     new ≡ before ++ concat (numbered_from 0 f (take (i + 1) xs))
 concat_numbered-take_more f xs i d before text new within so_far next =

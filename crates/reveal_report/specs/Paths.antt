@@ -7,7 +7,7 @@ use Rattle.report_frame.specs.declared.version.Version.TheVariants.{One, Two}
 use Rattle.layer_walk.specs.declared.path.Step.{Step}
 use Rattle.reveal_report.specs.Escape.{escaped}
 
--- the version is named where it isn't the first
+-- the version is named if it isn't the first
 abbrev pub version_mark : Version → List ℕ
 version_mark One = []
 version_mark Two = codes "~2"

@@ -12,7 +12,7 @@ use Rattle.nest_client.specs.Report.{client_of, report_with}
 use Rattle.star_client_c.specs.Cells.{cells_of, IsValue, IsRow}
 use Rattle.star_client_c.specs.Request.{Request, IsReport, report_length}
 
--- where bytes are the cells of some values, what follows the first value is the cells of the others
+-- if bytes are the cells of some values, what follows the first value is the cells of the others
 pub found_behind : (values : List (List ℕ)) (w n : ℕ) (bytes back : List ℕ) (r : Bool) → 1 ≤ w → length values ≡ w
     → All IsValue values → cells_of values ≡ n ∷ bytes → back ≡ drop n bytes
     → ((others : List (List ℕ)) → length others ≡ w - 1 → All IsValue others → cells_of others ≡ back → r ≡ true)

@@ -3,7 +3,7 @@ use Rattle.std.specs.Prelude.{ℕ, ◌≡◌, ◌≤◌, List, ◌∷◌, length
 use Rattle.std.specs.List.{flat_map}
 use Rattle.report_frame.specs.declared.limits.TheConstants.{MAX_VALUE}
 
--- a value behind the byte that counts it
+-- a value after the byte with its length
 abbrev pub cell : List ℕ → List ℕ
 cell value = length value ∷ value
 

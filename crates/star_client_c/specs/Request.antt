@@ -10,7 +10,7 @@ use Rattle.nest_client.specs.Report.{client_of, report_with}
 use Rattle.star_client_c.specs.Cells.{IsRow, HasRow}
 use Rattle.star_client_c.specs.declared.status.TheConstants.{BAD_VERSION, BAD_THRESHOLDS, BAD_VALUES, BAD_EXTRA, BAD_SEED, SMALL_BUFFER}
 
--- what a report is made of, beside the epoch and the client
+-- what a report is made from, besides the epoch and the client
 pub record Request : Type 0 where
   pub version : ℕ
   pub cells : List ℕ

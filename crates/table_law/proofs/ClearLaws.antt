@@ -1,4 +1,4 @@
--- A layer is clear exactly where its points and its heads differ.
+-- A layer is clear exactly if its points and its heads differ.
 use Rattle.std.proofs.Common.{◌≡◌, ◌≢◌, ℕ, suc, ◌+◌, ◌<◌, true, List, [], inl, inr, sym, ap, ◌∙◌, length, get_or, slice_index, arith}
 use Rattle.std.proofs.lemmas.Bool.{cases_lt}
 use Rattle.report_frame.specs.declared.version.Version.TheVariants.{One}
@@ -31,7 +31,7 @@ module _ (table : List Values) (ks : List ℕ) (e : ℕ) (seed : List ℕ) (l : 
   abbrev row_at : ℕ → Values
   row_at i = get_or table i []
 
-  -- rows begin with the same l + 1 values where they have the same first one
+  -- rows begin with the same l + 1 values if they have the same first one
   same_longer : (i j : ℕ) → i < length table → j < length table → slice_index longer i ≡ slice_index longer j → same_front (suc l) (row_at i) (row_at j) ≡ true
   same_longer i j li lj same =
       ap (λ n. same_front n (row_at i) (row_at j)) {x = suc l} {y = l + 1} (omega arith)

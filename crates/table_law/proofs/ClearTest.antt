@@ -24,7 +24,7 @@ below_each : (test : ℕ → Bool) (n : ℕ) → ((i : ℕ) → i < n → test i
 below_each test zero h = refl
 below_each test (suc n) h = and_from (all_below test n) (test n) (below_each test n (λ i lt. h i (omega arith))) (h n (omega arith))
 
--- where the first holds, the second doesn't
+-- if the first holds, the second doesn't
 not_both : (a b : Bool) → (not a || not b) ≡ true → a ≡ true → b ≡ true → ⊥
 not_both true true h p q = false≢true h
 not_both true false h p q = false≢true q

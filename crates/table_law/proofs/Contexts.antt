@@ -32,7 +32,7 @@ pub derived_long : (e : ℕ) (ks : List ℕ) (l : ℕ) (table : List Values) (al
 unfolding derived_at
 derived_long e ks l table all known = ap length known ∙ length-map table (λ row. derived (layer_context e ks l row))
 
--- the first row that begins with the same values isn't behind the row
+-- the first row that begins with the same values isn't after the row
 pub first_no_later : (table : List Values) (n i : ℕ) → i < length table → first_of table n (get_or table i []) ≤ i
 first_no_later table n i lt =
     let row : Values = get_or table i [] in

@@ -1,4 +1,4 @@
--- The place at which a key came first, in a map of the keys so far.
+-- The place at which a key occurred first, in a map of the keys so far.
 use Rattle.std.proofs.Common.{◌≡◌, ℕ, ◌+◌, ◌<◌, Bool, true, false, inl, inr, Option, Some, None, refl, sym, subst, arith}
 use Rattle.std.specs.Prelude.{if◌then◌else◌, unwrap_or}
 use Rattle.std.specs.Option.{option_or}
@@ -12,7 +12,7 @@ abbrev pub IsFirst : (ℕ → Type 0) → ℕ → Option ℕ → Type 0
 IsFirst P n None = (j : ℕ) → j < n → P j → ⊥
 IsFirst P n (Some p) = (p < n) × P p × ((j : ℕ) → j < p → P j → ⊥)
 
--- with one number more, of which a test tells whether P holds
+-- with one number more, for which a test says whether P holds
 first_more : (P : ℕ → Type 0) (n : ℕ) (o : Option ℕ) (b : Bool) → IsFirst P n o → (b ≡ true → P n) → (P n → b ≡ true) → IsFirst P (n + 1) (option_or o (if b then Some n else None))
 first_more P n (Some p) b h sound complete = (omega (arith, h.0), h.1, h.2)
 first_more P n None true h sound complete = (omega arith, sound refl, h)
@@ -21,7 +21,7 @@ first_more P n None false h sound complete = λ j lt holds. elim (cases_lt j n) 
   | inr ge ↦ (let is : j ≡ n = omega arith in false≢true (complete (subst P is holds)))
 ]
 
--- where P holds of n, the first one is the one found, or else n
+-- if P holds of n, the first one is the one found, or else n
 pub first_found : (P : ℕ → Type 0) (n : ℕ) (o : Option ℕ) → IsFirst P n o → P n → IsFirst P (n + 1) (Some (unwrap_or o n))
 first_found P n (Some p) h holds = (omega (arith, h.0), h.1, h.2)
 first_found P n None h holds = (omega arith, holds, h)

@@ -26,7 +26,7 @@ front_cmp = (front_ord.ghosts).cmp
 abbrev pub front_of : List Values → ℕ → List ℕ → ℕ → Front
 front_of table layer firsts j = record { before = slice_index firsts j; value = value_at (get_or table j []) layer }
 
--- fronts tie exactly where they are the same
+-- fronts tie exactly if they are the same
 pub fronts_tie : (a b : Front) → is_eq (front_cmp a b) ≡ true → (a.before ≡ b.before) × (a.value ≡ b.value)
 fronts_tie a b h =
     let same : (eqb a.before b.before && bytes_eq a.value b.value) ≡ true = matches_eq-law a b ∙ h in
@@ -36,7 +36,7 @@ pub tied_fronts : (a b : Front) → a.before ≡ b.before → a.value ≡ b.valu
 tied_fronts a b before value =
     sym (matches_eq-law a b) ∙ and_from _ _ (eq-eqb a.before b.before before) ((bytes_decides a.value b.value).1 value)
 
--- ---- a row's first one, told by the map
+-- ---- a row's first one, found by the map
 
 -- the value that was read of a row
 pub value_there : (xs row : Values) (value : List ℕ) (l : ℕ) → xs ≡ row → value ≡ get_or xs l value → l < length row → value ≡ value_at row l

@@ -78,7 +78,7 @@ pub opens_long : (table : List Values) (ks : List ℕ) (n : ℕ) (opens : List B
 unfolding opens_of
 opens_long table ks n opens known = ap length known ∙ length-map table (is_open table ks n)
 
--- a row is open with one value more where it was and enough rows begin with it
+-- a row is open with one value more if it was open and enough rows begin with it
 pub open_more : (table : List Values) (ks : List ℕ) (n : ℕ) (row : Values) → is_open table ks (n + 1) row ≡ (is_open table ks n row && nat_le (slice_index ks n) (how_many table (n + 1) row))
 unfolding is_open
 open_more table ks n row =

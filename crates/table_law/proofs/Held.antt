@@ -37,7 +37,7 @@ opened_own e seed i f l x plain one =
     let body : plain_of (keys_of One f l (context_key x)).body r ≡ plain = ap (λ v. plain_of (body_key_of v (context_key x)) r) (sym version) ∙ holds.body in
     ap (λ b. if b then opened_body (keys_of One f l (context_key x)) (plain_of (keys_of One f l (context_key x)).body r) else Refused Seal) sealed ∙ ap (opened_body (keys_of One f l (context_key x))) body
 
--- the values and thresholds behind the first l
+-- the values and thresholds after the first l
 fit_from : (ks : List ℕ) (row : List (List ℕ)) (l : ℕ) → AreThresholds One ks → IsRowOf ks row → l ≤ length ks → FitLevels l (drop l row) (drop l ks)
 fit_from ks row l t g within = record {
   deep = omega (arith, length-drop l row, g.width, t.few);

@@ -26,7 +26,7 @@ point_cmp = (point_ord.ghosts).cmp
 abbrev pub point_mark : List (List ℕ) → ℕ → List ℕ → ℕ → PointMark
 point_mark points l firsts j = record { first = slice_index firsts j; x = slice_index (get_or points j []) l }
 
--- marks tie exactly where they are the same
+-- marks tie exactly if they are the same
 pub points_tie : (a b : PointMark) → is_eq (point_cmp a b) ≡ true → (a.first ≡ b.first) × (a.x ≡ b.x)
 points_tie a b h =
     let same : (eqb a.first b.first && eqb a.x b.x) ≡ true = point_law a b ∙ h in
@@ -44,7 +44,7 @@ head_cmp = (head_ord.ghosts).cmp
 abbrev pub head_mark : ℕ → List ℕ → ℕ → List Values → List ℕ → ℕ → HeadMark
 head_mark e ks l table firsts j = record { before = slice_index firsts j; head = row_head e ks l table j }
 
--- marks tie exactly where they are the same
+-- marks tie exactly if they are the same
 head_tie : (a b : HeadMark) → is_eq (head_cmp a b) ≡ (eqb a.before b.before && same_head a.head b.head)
 head_tie a b =
     let same : Bool → Bool = λ v. eqb a.before b.before && (v && (eqb a.head.k b.head.k && (bytes_eq a.head.tag b.head.tag && (bytes_eq a.head.check b.head.check && bytes_eq a.head.boxed b.head.boxed)))) in

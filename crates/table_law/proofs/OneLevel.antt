@@ -1,4 +1,4 @@
--- The groups of a level of a clear table, how they come out, and the rows of the next level.
+-- The groups of a level of a clear table, their outcomes, and the rows of the next level.
 use Rattle.std.proofs.Common.{◌≡◌, ◌≢◌, ℕ, suc, ◌+◌, ◌^◌, ◌<◌, ◌≤◌, Bool, true, false, cond, ◌&&◌, List, [], ◌∷◌, inl, inr, Some, None, refl, sym, ap, ap₂, ◌∙◌, subst, map, filter, length, get_or, slice_index, arith, All, eqb, eqb-true, eq-eqb}
 use Rattle.std.specs.Prelude.{if◌then◌else◌, nat_le}
 use Rattle.std.specs.Str.{bytes_eq}
@@ -90,7 +90,7 @@ module _ (e : ℕ) (seed ks : List ℕ) (table : List Values) (low : e < 2 ^ 32)
   report_at : (p : Placed) → In p (placed table) → layer_report e seed ks l p.index p.row ≡ row_report table ks e seed l p.index
   report_at p i = ap (layer_report e seed ks l p.index) (in_placed table p i).1
 
-  -- two rows stand in one group exactly where they share the first values
+  -- two rows are in the same group exactly if they share the first values
   together : (p q : Placed) → In p (placed table) → In q (placed table) → same_group (level_row e seed ks l p) (level_row e seed ks l q) ≡ true → same_front (suc l) p.row q.row ≡ true
   together p q i j h =
       let g = one_group (level_row e seed ks l p) (level_row e seed ks l q) h in
@@ -206,7 +206,7 @@ module _ (e : ℕ) (seed ks : List ℕ) (table : List Values) (low : e < 2 ^ 32)
       ∙ own_point e seed ks f.0.index l f.0.row)
       ∙ many
 
-  -- how a group comes out
+  -- the outcome of a group
   pub outcome_is : (p : Placed) → In p (placed table) → is_open table ks l p.row ≡ true →
       outcome_at e l level_rows (level_row e seed ks l p) ≡ (if nat_le (slice_index ks l) (how_many table (suc l) p.row) then Opened (value_at p.row l) (how_many table (suc l) p.row) else Few)
   outcome_is p i free =
@@ -262,7 +262,7 @@ module _ (e : ℕ) (seed ks : List ℕ) (table : List Values) (low : e < 2 ^ 32)
       (λ p j. let f = from_filter (λ (p : Placed). is_open table ks l p.row) (placed table) p j in next_is p f.0 f.1 more)
       ∙ ap (map (level_row e seed ks (suc l))) (filter_both (λ (p : Placed). is_open table ks l p.row) (λ (p : Placed). nat_le (slice_index ks l) (how_many table (suc l) p.row)) (placed table))
 
-  -- after the last level no row stands
+  -- after the last level there is no row
   pub no_rows_after : suc l ≡ length ks → next_rows e l level_rows ≡ []
   unfolding next_rows
   no_rows_after last =

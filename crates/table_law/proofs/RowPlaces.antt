@@ -14,7 +14,7 @@ use Rattle.table_law.specs.Prefixes.{Values, value_at, same_front, how_many}
 use Rattle.table_law.specs.Fronts.{first_of, firsts_of}
 use Rattle.table_law.proofs.FrontLaws.{front_itself, front_turned, front_joins, front_before, front_last, front_more, front_alike}
 
--- the place of an element that passes, where none before it does
+-- the place of an element that passes, if none before it does
 pub place_is : {X : Type 0} (test : X → Bool) (xs : List X) (p : ℕ) (d : X) → p < length xs → test (get_or xs p d) ≡ true → ((j : ℕ) → j < p → test (get_or xs j d) ≡ true → ⊥) → place_of test xs ≡ Some p
 place_is test [] p d lt here before = absurd (omega (arith, lt))
 place_is test (x ∷ xs) zero d lt here before = ap (λ b. if b then Some 0 else option_map suc (place_of test xs)) here
@@ -32,7 +32,7 @@ pub record PlaceOf {X : Type 0} (test : X → Bool) (xs : List X) (d : X) : Type
   pub here : test (get_or xs place d) ≡ true
   pub before : (j : ℕ) → j < place → test (get_or xs j d) ≡ false
 
--- there is one where some element passes
+-- there is one if some element passes
 pub place_found : {X : Type 0} (test : X → Bool) (xs : List X) (d z : X) → In z xs → test z ≡ true → PlaceOf test xs d
 place_found test [] d z i h = absurd i
 place_found test (x ∷ xs) d z i h =
@@ -68,7 +68,7 @@ pub first_like : (table : List Values) (n : ℕ) (row : Values) → In row table
 first_like table n row i =
     subst (λ p. same_front n row (get_or table p []) ≡ true) (sym (first_is table n row i)) (first_place_of table n row i).here
 
--- rows begin with the same values where they have the same first one
+-- rows begin with the same values if they have the same first one
 pub same_firsts : (table : List Values) (n : ℕ) (a b : Values) → same_front n a b ≡ true → first_of table n a ≡ first_of table n b
 same_firsts table n a b h = ap (λ o. unwrap_or o 0) (λ i. place_of (λ c. front_alike n a b c h i) table)
 
@@ -77,7 +77,7 @@ firsts_same table n a b i j e =
     front_joins n a (get_or table (first_of table n a) []) b (first_like table n a i)
     (subst (λ p. same_front n (get_or table p []) b ≡ true) (sym e) (front_turned n b (get_or table (first_of table n b) []) (first_like table n b j)))
 
--- the first one among rows, told by the first ones of one value less and by that value
+-- the first one among rows, found by the first ones of one value less and by that value
 pub first_longer : (table : List Values) (n i p : ℕ) → i < length table → p < i + 1 →
     first_of table n (get_or table p []) ≡ first_of table n (get_or table i []) → value_at (get_or table p []) n ≡ value_at (get_or table i []) n →
     ((j : ℕ) → j < p → first_of table n (get_or table j []) ≡ first_of table n (get_or table i []) → value_at (get_or table j []) n ≡ value_at (get_or table i []) n → ⊥) →
@@ -108,7 +108,7 @@ one_before f table (suc i) p le lt h =
       | inr ge ↦ or_right (list_any f (take i table)) (f (get_or table i [])) (ap (λ n. f (get_or table n [])) {x = i} {y = p} (omega arith) ∙ h)
     ]
 
--- a row is its own first one exactly where no row before it begins with the same values
+-- a row is its own first one exactly if no row before it begins with the same values
 pub own_first : (table : List Values) (n i : ℕ) → i < length table → list_any (λ z. same_front n z (get_or table i [])) (take i table) ≡ not (eqb (first_of table n (get_or table i [])) i)
 own_first table n i lt =
     let row : Values = get_or table i [] in

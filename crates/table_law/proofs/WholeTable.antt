@@ -81,7 +81,7 @@ module _ (e : ℕ) (seed ks : List ℕ) (table : List Values) (low : e < 2 ^ 32)
     abbrev rows : List Row
     rows = map (level_row e seed ks l) (filter (λ (p : Placed). is_open table ks l p.row) (placed table))
 
-    -- a row's group as it is told
+    -- a row's group as it is revealed
     told_is : (p : Placed) → In p (placed table) → is_open table ks l p.row ≡ true → opened_row e l rows (level_row e seed ks l p) ≡ (if nat_le (slice_index ks l) (how_many table (suc l) p.row) then Some (entry table ks (suc l) p.row) else None)
     unfolding path_to layer_report layer
     told_is p i free =

@@ -1,4 +1,4 @@
--- When the reports of a table don't come in each other's way.
+-- When the reports of a table don't conflict with each other.
 use Rattle.std.specs.Prelude.{◌≡◌, ◌≢◌, ◌<◌, ◌==◌, ℕ, zero, suc, Bool, true, not, ◌&&◌, ◌||◌, List, [], length, get_or}
 use Rattle.std.specs.Str.{bytes_eq}
 use Rattle.report_frame.specs.View.{head_of}
@@ -25,7 +25,7 @@ abbrev pub all_below : (ℕ → Bool) → ℕ → Bool
 all_below test zero = true
 all_below test (suc n) = all_below test n && test n
 
--- rows i and j don't come in each other's way in layer l
+-- rows i and j don't conflict in layer l
 abbrev pub keep_clear : List Values → List ℕ → ℕ → List ℕ → (l i j : ℕ) → Bool
 keep_clear table ks e seed l i j =
     let a = get_or table i [] in let b = get_or table j [] in
@@ -33,7 +33,7 @@ keep_clear table ks e seed l i j =
     (not (same_front (suc l) a b) || not (one.x == other.x))
     && (not (same_front l a b) || (bytes_eq (value_at a l) (value_at b l) || not (same_head (head_of one) (head_of other))))
 
--- no row comes in the way of one before it in layer l
+-- no row conflicts with one before it in layer l
 unfoldable pub is_clear_at : List Values → List ℕ → ℕ → List ℕ → ℕ → Bool
 is_clear_at table ks e seed l = all_below (λ j. all_below (λ i. keep_clear table ks e seed l i j) j) (length table)
 

@@ -1,4 +1,4 @@
--- What tells the rows of a layer apart: their points, and their heads.
+-- What distinguishes the rows of a layer: their points, and their heads.
 use Rattle.std.specs.Prelude.{◌≡◌, ◌≢◌, ◌<◌, ℕ, List, [], length, map, get_or, slice_index}
 use Rattle.report_frame.specs.declared.version.Version.TheVariants.{One}
 use Rattle.report_frame.specs.declared.head.Head.{Head}
@@ -30,7 +30,7 @@ derived_at e ks l table = map (λ row. derived (layer_context e ks l row)) table
 abbrev pub row_head : ℕ → List ℕ → ℕ → List Values → ℕ → Head
 row_head e ks l table i = context_head (layer_context e ks l (get_or table i []))
 
--- no two first ones of their fronts have the same head in the layer, where the rows before it have the same first one
+-- no two first ones of their fronts have the same head in the layer, if the rows before it have the same first one
 abbrev pub HeadsDiffer : ℕ → List ℕ → ℕ → List Values → (firsts longer : List ℕ) → Type 0
 HeadsDiffer e ks l table firsts longer = (i j : ℕ) → i < j → j < length table → slice_index longer i ≡ i → slice_index longer j ≡ j →
     slice_index firsts i ≡ slice_index firsts j → row_head e ks l table i ≢ row_head e ks l table j

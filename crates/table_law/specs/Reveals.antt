@@ -19,7 +19,7 @@ pub record IsRowOf (ks : List ℕ) (row : Values) : Type 0 where
 abbrev pub IsTableOf : List ℕ → List Values → Type 0
 IsTableOf ks table = All (IsRowOf ks) table
 
--- no group of the level came out without a line or with a bad value
+-- no group of the level was without a line or had a bad value
 abbrev pub IsClean : LevelCount → Type 0
 IsClean c = (c.no_line ≡ 0) × (c.bad_value ≡ 0)
 

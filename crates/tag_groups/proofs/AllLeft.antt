@@ -1,4 +1,4 @@
--- All points are left where no two have one x.
+-- All points are left if no two have the same x.
 use Rattle.std.proofs.Common.{◌≡◌, true, false, not, ◌||◌, List, [], ◌∷◌, ◌⊎◌, inl, inr, refl, sym, ap, ◌∙◌, length, eqb, eqb-true}
 use Rattle.std.specs.Cmp.Lexicographic.{bytes_decides}
 use Rattle.std.specs.Str.{bytes_eq}
@@ -33,7 +33,7 @@ no_ties : (points : List Point) → Pairwise (λ (p q : Point). p.x ≡ q.x → 
 no_ties [] h = tt
 no_ties (p ∷ points) h = (all_of (λ q. x_cmp p q ≡ Equal → ⊥) points (λ q i e. of_all (λ (q : Point). p.x ≡ q.x → ⊥) points h.0 q i (x_equal p q e)), no_ties points h.1)
 
--- all are left where no two have the same x
+-- all are left if no two have the same x
 pub all_left : (points : List Point) → Pairwise (λ (p q : Point). p.x ≡ q.x → ⊥) points → length (points_left_of points) ≡ length points
 unfolding points_left_of
 all_left points h =

@@ -46,7 +46,7 @@ joined_at key n (f ∷ fs) p g e at =
       ] refl h
     ] e
 
--- no group is found: a new one stands last
+-- no group is found: a new one is last
 pub joined_last : (key : Key) (n : ℕ) (gs : List GroupView) → place_of (has_key key) gs ≡ None → gs ++ new_group key n ∷ [] ≡ joined key n gs
 joined_last key n [] e = refl
 joined_last key n (f ∷ fs) e =
@@ -70,7 +70,7 @@ place_kept key q n p (f ∷ fs) e =
       ] refl h
     ] e
 
--- versions are told apart as heads are
+-- versions are distinguished as heads are
 pub version_tie : (a b : Version) → (version_eq.ghosts).eq a b ≡ same_version a b
 version_tie One One = refl
 version_tie One Two = refl
@@ -91,7 +91,7 @@ one_key key f g h k = (
   same_head_is f.head key.head (second_so (eqb f.parent key.parent) _ h) ∙ sym (same_head_is g.head key.head (second_so (eqb g.parent key.parent) _ k)),
 )
 
--- the map's order tells keys apart as groups do: where the keys are one, so are the fronts of their tags
+-- the map's order distinguishes keys as groups do: if the keys are equal, so are the fronts of their tags
 pub rank_tie : (key q : Key) (n : ℕ) → is_eq (rank_cmp (rank_of key) (rank_of q)) ≡ has_key q (new_group key n)
 rank_tie key q n =
     let fronts : Bool = eqb (front_of key.head.tag) (front_of q.head.tag) in
@@ -134,7 +134,7 @@ pub none_finds : {A B : Type 0} (r : Result A B) (key : Key) (n : ℕ) (gs news 
 none_finds (Ok x) key n gs news old new was none updates kept is q = finds_new key n gs old new was none updates q ∙ ap (place_of (has_key q)) (sym is)
 none_finds (Err e) key n gs news old new was none updates kept is q = ap (lookup (is_at (rank_cmp (rank_of q)))) kept ∙ was q ∙ ap (place_of (has_key q)) (sym is)
 
--- a group with the key, where groups differ, stands at the place of the key
+-- a group with the key, if groups differ, is at the place of the key
 pub place_here : (key : Key) (gs : List GroupView) (p : ℕ) (g : GroupView) → AllPairs AreApart gs → p < length gs → g ≡ get_or gs p g → has_key key g ≡ true → place_of (has_key key) gs ≡ Some p
 place_here key [] p g apart lt at is = absurd (omega (arith, lt))
 place_here key (f ∷ fs) zero g apart lt at is = ap (λ b. if b then Some 0 else later (place_of (has_key key) fs)) (subst (λ x. has_key key x ≡ true) at is)

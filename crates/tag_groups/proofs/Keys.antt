@@ -29,7 +29,7 @@ pub same_version_self : (a : Version) → same_version a a ≡ true
 same_version_self One = refl
 same_version_self Two = refl
 
--- the test on heads tells them apart
+-- the test on heads distinguishes them
 pub same_head_is : (a b : Head) → same_head a b ≡ true → a ≡ b
 same_head_is a b h =
     let more : ((eqb a.k b.k) && (bytes_eq a.tag b.tag && (bytes_eq a.check b.check && bytes_eq a.boxed b.boxed))) ≡ true = second_so (same_version a.version b.version) _ h in
@@ -61,7 +61,7 @@ through x y z yz zx =
     let b = same_key_is z x zx in
     same_key_of y x (a.0 ∙ b.0) (a.1 ∙ b.1)
 
--- one more row begins a group where no group is its own
+-- one more row begins a group if no group is its own
 pub groups_more : (rows xs ys : List RowView) (x : RowView) (b : Bool) (groups : List GroupView) → groups ≡ map (group_of rows) (first_ones same_key xs) → b ≡ any_group groups x → ys ≡ xs ++ x ∷ [] → map (group_of rows) (first_ones same_key ys) ≡ groups ++ (if b then [] else group_of rows x ∷ [])
 groups_more rows xs ys x b groups is known e =
     let firsts = first_ones same_key xs in

@@ -79,7 +79,7 @@ abbrev pub floor : Option ℕ → ℕ
 floor None = 0
 floor (Some b) = b
 
--- the points behind p have another x where the first of them has
+-- the points after p have another x if the first of them has
 other_all : (p : Point) (ps : List Point) → Up p.x ps → is_other (first_x ps) p.x ≡ true → (z : Point) → In z ps → z.x ≡ p.x → ⊥
 other_all p [] u t z i e = absurd i
 other_all p (q ∷ qs) u t z i e =
@@ -129,7 +129,7 @@ in_apart before (p ∷ ps) u d z (inr i) lone other =
     let j : In z (apart_from (Some p.x) ps) = in_apart (Some p.x) ps u.1 d.1 z i alone (other_so p.x z.x apart) in
     elim (is_other before p.x && is_other (first_x ps) p.x) as (λ b. In z (if b then p ∷ apart_from (Some p.x) ps else apart_from (Some p.x) ps)) [ true ↦ inr j | false ↦ j ]
   where
-    -- p stands behind itself, so the point right behind it is p too
+    -- p occurs after itself, so the point right after it is p too
     between : (p : Point) (ps : List Point) (z : Point) → Up p.x ps → NotFirst p ps → p ≡ z → In z ps → is_lone ps z ≡ true → ⊥
     between p [] z u n e i h = absurd i
     between p (q ∷ qs) z u n e i h =

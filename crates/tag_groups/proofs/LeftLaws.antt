@@ -50,7 +50,7 @@ is_left points p = (
   (λ h. Contains-from_in (points_left_of points) p (in_left points p (in_from_Contains points p h.0) h.1)),
 )
 
--- neither the order of the points nor how often one stands there counts
+-- neither the order of the points nor how often one occurs counts
 pub same_left : (xs ys : List Point) → SameElements xs ys → points_left_of xs ≡ points_left_of ys
 same_left xs ys same =
     let to : (z : Point) → In z xs → In z ys = λ z i. in_from_Contains ys z (same.0 z (Contains-from_in xs z i)) in

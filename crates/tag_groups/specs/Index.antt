@@ -14,7 +14,7 @@ use Rattle.star_lists.specs.Places.{place_of}
 abbrev pub front_of : List ℕ → ℕ
 front_of tag = from_be_bytes w64 tag
 
--- the key behind the front of its tag
+-- the key after the front of its tag
 abbrev pub rank_of : Key → Rank
 rank_of key = record { front = front_of key.head.tag; key = key }
 

@@ -1,4 +1,4 @@
--- When two rows stand in one group.
+-- When two rows are in the same group.
 use Rattle.std.specs.Prelude.{◌≤◌, Bool, true, false, ◌==◌, ◌&&◌}
 use Rattle.std.specs.Str.{bytes_eq}
 use Rattle.report_frame.specs.declared.head.Head.{Head}

@@ -20,7 +20,7 @@ AreMembers rows group = rows_at rows group.members ≡ filter (λ row. in_group 
 abbrev pub AreInside : List RowView → GroupView → Type 0
 AreInside rows group = All (λ place. place < length rows) group.members
 
--- the point is left exactly where it stands among the points and none has its x with another y
+-- the point is left exactly if it is among the points and none has its x with another y
 abbrev pub IsLeft : List Point → Point → Type 0
 IsLeft points p = Contains (points_left_of points) p ↔ (Contains points p × (is_lone points p ≡ true))
 

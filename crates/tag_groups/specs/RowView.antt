@@ -4,13 +4,13 @@ use Rattle.report_frame.specs.Frame.{Fields, IsFrame}
 use Rattle.report_frame.specs.Reading.{decoded, fields_from}
 use Rattle.report_frame.specs.declared.fault.Fault.{Fault}
 
--- a report with the number of its record, and the number of the group of the level before that it came out of
+-- a report with the number of its record, and the number of the group of the level before in which it was nested
 pub record RowView : Type 0 where
   pub index : ℕ
   pub parent : ℕ
   pub report : Fields
 
--- the report, and where there is none, which one isn't said anywhere
+-- the report; if there is none, which one it is isn't said anywhere
 abbrev pub report_or_none : Result Fields Fault → Fields
 report_or_none (Ok report) = report
 report_or_none (Err fault) = fields_from []

@@ -11,6 +11,6 @@ abbrev pub row_with : ℕ → ℕ → List ℕ → Result Fields Fault → Resul
 row_with index parent bytes (Ok report) = Ok (record { index = index; parent = parent; report = report })
 row_with index parent bytes (Err fault) = Err (record { frame = bytes; fault = fault })
 
--- the row where the bytes are a frame, else the bytes with their fault
+-- the row if the bytes are a frame, otherwise the bytes with their fault
 abbrev pub row_from : ℕ → ℕ → List ℕ → Result RowView BadRow
 row_from index parent bytes = row_with index parent bytes (decoded bytes)

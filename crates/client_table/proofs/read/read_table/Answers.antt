@@ -5,7 +5,7 @@ use Rattle.client_table.specs.Table.{table_of}
 use Rattle.client_table.proofs.Outcomes.{answer-bad, answer-good, answer-too_many, answer-width}
 use Rattle.client_table.proofs.read.read_table.Goals as goal
 
--- what is answered of the records of the text
+-- what is returned for the records of the text
 answer : (c : goal.Joined-records) → IsAnswer One c.args.width (table_of c.args.bytes.now) (table_of c.args.bytes.now) c.read_rows.result
 answer c = subst (λ (rows : List (List (List ℕ))). IsAnswer One c.args.width rows rows c.read_rows.result) c.records_of-records.ensures.left c.read_rows.ensures
 

@@ -5,7 +5,7 @@ use Rattle.client_table.specs.Table.{table_of, table2_of, row2_of}
 use Rattle.client_table.proofs.Outcomes.{answer-bad, answer-good, answer-too_many, answer-width2}
 use Rattle.client_table.proofs.read2.read_table2.Goals as goal
 
--- what is answered of the records of the text
+-- what is returned for the records of the text
 answer : (c : goal.Joined-records) → IsAnswer Two c.args.width (table_of c.args.bytes.now) (table2_of c.args.width c.args.bytes.now) c.read_rows2.result
 answer c = subst (λ (rows : List (List (List ℕ))). IsAnswer Two c.args.width rows (map (row2_of c.args.width) rows) c.read_rows2.result) c.records_of-records.ensures.left c.read_rows2.ensures
 

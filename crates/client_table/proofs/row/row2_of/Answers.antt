@@ -8,7 +8,7 @@ use Rattle.client_table.proofs.row.row2_of.Goals as goal
 pub returns-in_err-values-clause-bad : goal.returns-in_err-values-clause-bad
 returns-in_err-values-clause-bad c column is = c.in_err-values.ensures.bad column (search rules) Two
 
--- there is no cell behind the extra bytes
+-- there is no cell after the extra bytes
 gone : (c : goal.Else-is_some) → field_at (fields_of c.args.cells.now) (c.args.width + 1) ≡ None
 gone c = sym c.get.ensures.value ∙ ap (option_map (λ cell. cell.now)) (none-of c.get.result (sym c.is_some.ensures ∙ c.if-is_some.false))
 

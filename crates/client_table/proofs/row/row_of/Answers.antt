@@ -7,7 +7,7 @@ use Rattle.client_table.proofs.row.row_of.Goals as goal
 pub returns-in_err-values-clause-bad : goal.returns-in_err-values-clause-bad
 returns-in_err-values-clause-bad c column is = c.in_err-values.ensures.bad column (search rules) One
 
--- there is no cell behind the last value
+-- there is no cell after the last value
 gone : (c : goal.Else-is_some) → field_at (fields_of c.args.cells.now) c.args.width ≡ None
 gone c = sym c.get.ensures.value ∙ ap (option_map (λ cell. cell.now)) (none-of c.get.result (sym c.is_some.ensures ∙ c.if-is_some.false))
 

@@ -3,7 +3,7 @@ use Rattle.std.specs.Prelude.{IfOk, IsTrue, ◌↔◌}
 use Rattle.table_law.proofs.ClearTest.{clear_decides, same_test}
 use Rattle.table_law.proofs.clear.is_clear.Goals as goal
 
--- an answer that tells clear tables is the test
+-- a result that is true exactly for clear tables is the test
 told : {E P : Type 0} (r : Result Bool E) (b : Bool) → IfOk r (λ c. IsTrue c ↔ P) → (b ≡ Rattle.std.proofs.Common.true) ↔ P → IfOk r (λ c. c ≡ b)
 told (Ok c) b f g = same_test c b f g
 told (Err e) b f g = tt

@@ -18,7 +18,7 @@ use Rattle.table_law.proofs.Marks.{head_cmp, head_mark, heads_tie, tied_heads}
 use Rattle.table_law.proofs.heads.heads_differ.Goals as goal
 use Rattle.table_law.proofs.heads.heads_differ.Goals.{then-longer-i+in_ok-first_place+else-branch-i, else-longer-i}
 
--- the head that is made of what was derived
+-- the head that is made from what was derived
 head_made : (e : ℕ) (ks : List ℕ) (l : ℕ) (table : List Values) (i : ℕ) (d : Derived) (value boxed : List ℕ) → d ≡ derived (layer_context e ks l (get_or table i [])) → value ≡ value_at (get_or table i []) l →
     boxed ≡ box_of One d.key.bytes value → (let h : Head = record { version = One; k = slice_index ks l; tag = d.tag; check = d.check; boxed = boxed } in h) ≡ row_head e ks l table i
 head_made e ks l table i d value boxed is of_row box =
