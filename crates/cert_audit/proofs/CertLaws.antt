@@ -1,16 +1,18 @@
 -- The laws of certificates, for the layers above.
-use Rattle.std.proofs.Common.{◌≡◌, ℕ, ◌+◌, List, [], ◌++◌, length, Result, Ok, Err, refl, sym, ap, subst, ◌∙◌, arith, inl, inr}
+use Rattle.std.proofs.Common.{◌≡◌, ℕ, ◌+◌, List, [], ◌++◌, length, None, Result, Ok, Err, refl, sym, ap, subst, ◌∙◌, arith, inl, inr}
 use Rattle.std.specs.Prelude.{◌⊎◌, ◌↔◌, All}
 use Rattle.star_io.specs.Bytes.{AreBytes}
-use Rattle.report_frame.specs.Format.{Entry}
+use Rattle.byte_format.specs.Format.{Entry}
 use Rattle.cert_audit.specs.declared.fault.CertFault.{CertFault}
 use Rattle.cert_audit.specs.declared.cert.Cert.{Cert}
 use Rattle.cert_audit.specs.declared.cert.ReadCert.{ReadCert}
-use Rattle.cert_audit.specs.Layout.{spelling}
+use Rattle.byte_format.specs.Format.{spelling}
 use Rattle.cert_audit.specs.Certificate.{InRange, certificate, entries, cert_spelling, BeginsWith, FaultAt}
-use Rattle.cert_audit.specs.Reading.{◌>>=◌, fault_at, read, reading, cert_from}
+use Rattle.byte_format.specs.Reading.{◌>>=◌, read}
+use Rattle.cert_audit.specs.Reading.{certs, Answer, fault_at, reading, cert_from}
 use Rattle.cert_audit.specs.Laws.{BeginsWithOne, HasOneFault}
-use Rattle.cert_audit.proofs.Walk.{Answer, found, Whole, Wrong, read-whole, read-wrong}
+use Rattle.byte_format.proofs.Found.{found, Whole, Wrong}
+use Rattle.byte_format.proofs.Spelt.{read-whole, read-wrong}
 use Rattle.cert_audit.proofs.Entries.{certificate_is_sound, after-entries, whole_entries, cert_from-entries, are_three}
 
 -- a place, counted from the front
@@ -27,8 +29,8 @@ of_answer r = r >>= λ x. Ok (record { cert = cert_from x.0; used = x.1 })
 pub reading-cert : (r : ReadCert) (bytes : List ℕ) → BeginsWith r.cert r.used bytes → reading bytes ≡ Ok r
 unfolding reading cert_spelling
 reading-cert r bytes begins =
-    let entries_read : read certificate 0 [] bytes ≡ Ok (entries r.cert, 0 + length (spelling certificate (entries r.cert))) =
-    ap (read certificate 0 []) begins.spelt ∙ read-whole certificate 0 (entries r.cert) begins.rest certificate_is_sound (after-entries r.cert begins.in_range) in
+    let entries_read : read certs certificate 0 [] bytes ≡ Ok (entries r.cert, 0 + length (spelling certificate (entries r.cert))) =
+    ap (read certs certificate 0 []) begins.spelt ∙ read-whole certs certificate 0 (entries r.cert) None begins.rest certificate_is_sound (after-entries r.cert begins.in_range) tt in
     ap of_answer entries_read
     ∙ ap (λ (c : Cert). Ok (record { cert = c; used = 0 + length (spelling certificate (entries r.cert)) })) (cert_from-entries r.cert (are_three r.cert begins.in_range))
     ∙ ap (λ (n : ℕ). Ok (record { cert = r.cert; used = n })) (from_front _ ∙ sym begins.long)
@@ -37,8 +39,8 @@ reading-cert r bytes begins =
 pub reading-fault : (bytes : List ℕ) (f : CertFault) → FaultAt bytes f.kind f.at → reading bytes ≡ Err f
 unfolding reading
 reading-fault bytes f wrong =
-    let fault_read : read certificate 0 [] bytes ≡ fault_at f.kind (0 + length (spelling certificate wrong.first)) =
-    ap (read certificate 0 []) wrong.spelt ∙ read-wrong certificate 0 wrong.first wrong.rest f.kind certificate_is_sound wrong.wrong in
+    let fault_read : read certs certificate 0 [] bytes ≡ fault_at f.kind (0 + length (spelling certificate wrong.first)) =
+    ap (read certs certificate 0 []) wrong.spelt ∙ read-wrong certs certificate 0 wrong.first wrong.rest f.kind certificate_is_sound wrong.wrong in
     ap of_answer fault_read ∙ ap (λ (p : ℕ). fault_at f.kind p) (from_front _ ∙ sym wrong.place)
 
 -- what bytes give
@@ -48,9 +50,9 @@ pub data ReadsTo (bytes : List ℕ) : Type 0 where
 
 pub reads_to : (bytes : List ℕ) → AreBytes bytes → ReadsTo bytes
 unfolding cert_spelling
-reads_to bytes are_bytes = elim (found certificate 0 [] bytes are_bytes) [
-  | Whole es rest place after parts place_is is ↦
-      let whole = whole_entries es after in
+reads_to bytes are_bytes = elim (found certs certificate 0 [] bytes are_bytes) [
+  | Whole es rest end place after may parts place_is is ↦
+      let whole = whole_entries end es after in
       let r : ReadCert = record { cert = whole.cert; used = place } in
       let begins : BeginsWith whole.cert place bytes = record {
         in_range = whole.in_range;
@@ -117,28 +119,28 @@ no_prefix c d more other of_c of_d same =
 -- ---- what the code reads
 
 -- a certificate whose entries were read is in range, and the bytes begin with it
-pub entries_read : (bytes : List ℕ) (c : Cert) (used : ℕ) → AreBytes bytes → All (λ p. length p.y ≡ 3) c.points → read certificate 0 [] bytes ≡ Ok (entries c, used) → BeginsWith c used bytes
+pub entries_read : (bytes : List ℕ) (c : Cert) (used : ℕ) → AreBytes bytes → All (λ p. length p.y ≡ 3) c.points → read certs certificate 0 [] bytes ≡ Ok (entries c, used) → BeginsWith c used bytes
 unfolding cert_spelling
-entries_read bytes c used are_bytes are is = elim (found certificate 0 [] bytes are_bytes) [
-  | Whole es rest place after parts place_is found_is ↦
+entries_read bytes c used are_bytes are is = elim (found certs certificate 0 [] bytes are_bytes) [
+  | Whole es rest end place after may parts place_is found_is ↦
       let pair : (es, place) ≡ (entries c, used) = cc in
       let same : es ≡ entries c = ap (λ (p : List Entry × ℕ). p.0) pair in
-      let end : place ≡ used = ap (λ (p : List Entry × ℕ). p.1) pair in
-      let whole = whole_entries es after in
+      let used_is : place ≡ used = ap (λ (p : List Entry × ℕ). p.1) pair in
+      let whole = whole_entries end es after in
       let one : whole.cert ≡ c = sym (cert_from-entries whole.cert (are_three whole.cert whole.in_range)) ∙ ap cert_from (sym whole.is ∙ same) ∙ cert_from-entries c are in
       record {
         in_range = subst InRange one whole.in_range;
         rest = rest;
         spelt = parts ∙ ap (λ (l : List Entry). spelling certificate l ++ rest) same;
-        long = sym end ∙ place_is ∙ from_front _ ∙ ap (λ (l : List Entry). length (spelling certificate l)) same;
+        long = sym used_is ∙ place_is ∙ from_front _ ∙ ap (λ (l : List Entry). length (spelling certificate l)) same;
       }
   | Wrong es rest kind place after parts place_is found_is ↦ absurd cc
 ]
 
 -- the fault of reading the entries is that of the bytes
-pub fault_read : (bytes : List ℕ) (f : CertFault) → AreBytes bytes → read certificate 0 [] bytes ≡ Err f → FaultAt bytes f.kind f.at
-fault_read bytes f are_bytes is = elim (found certificate 0 [] bytes are_bytes) [
-  | Whole es rest place after parts place_is found_is ↦ absurd cc
+pub fault_read : (bytes : List ℕ) (f : CertFault) → AreBytes bytes → read certs certificate 0 [] bytes ≡ Err f → FaultAt bytes f.kind f.at
+fault_read bytes f are_bytes is = elim (found certs certificate 0 [] bytes are_bytes) [
+  | Whole es rest end place after may parts place_is found_is ↦ absurd cc
   | Wrong es rest kind place after parts place_is found_is ↦
       let g : CertFault = record { kind = kind; at = place } in
       let e : g ≡ f = cc in

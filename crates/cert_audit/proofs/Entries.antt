@@ -1,5 +1,5 @@
--- The certificate as a layout: what its entries are, and which certificate entries are those of.
-use Rattle.std.proofs.Common.{◌≡◌, ℕ, zero, suc, ◌+◌, ◌*◌, ◌<◌, ◌≤◌, List, [], ◌∷◌, ◌++◌, length, map, drop, refl, sym, ap, ap₂, subst, ◌∙◌, append_assoc, rules, arith, length-append}
+-- The certificate as a format: what its entries are, and which certificate entries are those of.
+use Rattle.std.proofs.Common.{◌≡◌, ℕ, zero, suc, ◌+◌, ◌*◌, ◌<◌, ◌≤◌, List, [], ◌∷◌, ◌++◌, length, map, drop, Option, None, refl, sym, ap, ap₂, subst, ◌∙◌, append_assoc, rules, arith, length-append}
 use Rattle.std.specs.Prelude.{All}
 use Rattle.std.proofs.lemmas.List.{drop_at}
 use Rattle.std.proofs.lemmas.List.Elements.{All-nil, All-cons, All-head, All-tail, All-weaker}
@@ -9,9 +9,11 @@ use Rattle.field61.specs.Field.{AreElements}
 use Rattle.report_frame.specs.declared.head.Head.{Head}
 use Rattle.report_frame.specs.declared.version.Version.{Version}
 use Rattle.report_frame.specs.Versions.{version_number, version_of, max_level, max_threshold}
-use Rattle.report_frame.specs.Format.{Size, Entry}
-use Rattle.report_frame.specs.Format.Entry.{Number, Bytes}
-use Rattle.report_frame.specs.Reading.{number_in}
+use Rattle.byte_format.specs.Format.{Format, Entry, After, IsEnd}
+use Rattle.byte_format.proofs.FirstEntry.{number_first, bytes_first}
+use Rattle.byte_format.proofs.Spelt.{IsSound}
+use Rattle.byte_format.specs.Format.Entry.{Number, Bytes}
+use Rattle.byte_format.specs.Reading.{number_in}
 use Rattle.report_frame.proofs.VersionFacts.{version_of_number, number_of_version, number_low, number_high, level_fits, threshold_fits}
 use Rattle.shamir_limbs.specs.declared.share.Point.{Point}
 use Rattle.shamir_limbs.specs.KeyLine.{xs_of}
@@ -19,12 +21,9 @@ use Rattle.shamir_limbs.proofs.LimbLaws.{three_items}
 use Rattle.cert_audit.specs.declared.kind.CertKind.{CertKind}
 use Rattle.cert_audit.specs.declared.limits.TheConstants.{CERT_MAGIC, CERT_FORMAT}
 use Rattle.cert_audit.specs.declared.cert.Cert.{Cert}
-use Rattle.cert_audit.specs.Layout.{Layout, After, IsDone}
-use Rattle.cert_audit.specs.Layout.Layout.{NumberField, BytesField}
 use Rattle.cert_audit.specs.Certificate.{IsPoint, InRange, numbers_layout, points_layout, certificate, front_entries, point_entries, number_entries, entries}
 use Rattle.cert_audit.specs.Reading.{points_in, cert_from}
 use Rattle.cert_audit.proofs.Ascending.{AscendFrom, AscendFrom-increasing, increasing-AscendFrom}
-use Rattle.cert_audit.proofs.Walk.{IsSound}
 
 -- ---- each number has a spelling in the size of its field
 
@@ -32,7 +31,7 @@ numbers_are_sound : (m : ℕ) → IsSound (numbers_layout m)
 numbers_are_sound zero = tt
 numbers_are_sound (suc m) = (omega arith, λ _. numbers_are_sound m)
 
-points_are_sound : (n previous : ℕ) (rest : Layout) → IsSound rest → IsSound (points_layout n previous rest)
+points_are_sound : (n previous : ℕ) (rest : Format CertKind) → IsSound rest → IsSound (points_layout n previous rest)
 points_are_sound zero previous rest sound = sound
 points_are_sound (suc n) previous rest sound = (omega arith, λ x. (omega arith, λ _. (omega arith, λ _. (omega arith, λ _. points_are_sound n x rest sound))))
 
@@ -41,14 +40,14 @@ certificate_is_sound = search (rules, arith, level_fits, threshold_fits, points_
 
 -- ---- the entries of a certificate in range
 
-after-numbers : (numbers : List ℕ) → AreElements numbers → After (numbers_layout (length numbers)) (number_entries numbers) IsDone
-after-numbers [] elements = tt
+after-numbers : (numbers : List ℕ) → AreElements numbers → After (numbers_layout (length numbers)) (number_entries numbers) (IsEnd None)
+after-numbers [] elements = refl
 after-numbers (n ∷ ns) elements =
     let first : n < MODULUS = All-head (λ x. x < MODULUS) n ns elements in
     (omega arith, omega (arith, first), after-numbers ns (All-tail (λ x. x < MODULUS) n ns elements))
 
-after-points : (points : List Point) (previous : ℕ) (rest : Layout) (es : List Entry) → All IsPoint points → AscendFrom previous (xs_of points) → After rest es IsDone
-    → After (points_layout (length points) previous rest) (point_entries points ++ es) IsDone
+after-points : (points : List Point) (previous : ℕ) (rest : Format CertKind) (es : List Entry) → All IsPoint points → AscendFrom previous (xs_of points) → After rest es (IsEnd None)
+    → After (points_layout (length points) previous rest) (point_entries points ++ es) (IsEnd None)
 after-points [] previous rest es are ascend after = after
 after-points (p ∷ ps) previous rest es are ascend after =
     let first = All-head IsPoint p ps are in (
@@ -70,7 +69,7 @@ after-points (p ∷ ps) previous rest es are ascend after =
     )
 
 -- the entries stand in all fields, each in its range
-pub after-entries : (c : Cert) → InRange c → After certificate (entries c) IsDone
+pub after-entries : (c : Cert) → InRange c → After certificate (entries c) (IsEnd None)
 after-entries c range =
     let version = sym (version_of_number c.head.version) in
     let is = range.is_cert in
@@ -78,8 +77,8 @@ after-entries c range =
     let number_is_high = number_high c.head.version in
     let level : c.level ≤ max_level (version_of (version_number c.head.version)) = subst (λ (v : Version). c.level ≤ max_level v) version is.level in
     let k : c.head.k ≤ max_threshold (version_of (version_number c.head.version)) = subst (λ (v : Version). c.head.k ≤ max_threshold v) version is.k_high in
-    let numbers : After (numbers_layout (3 * c.head.k)) (number_entries c.numbers) IsDone =
-    subst (λ (m : ℕ). After (numbers_layout m) (number_entries c.numbers) IsDone) is.numbers (after-numbers c.numbers range.elements) in
+    let numbers : After (numbers_layout (3 * c.head.k)) (number_entries c.numbers) (IsEnd None) =
+    subst (λ (m : ℕ). After (numbers_layout m) (number_entries c.numbers) (IsEnd None)) is.numbers (after-numbers c.numbers range.elements) in
     let points = after-points c.points 0 (numbers_layout (3 * c.head.k)) (number_entries c.numbers) range.points (increasing-AscendFrom 0 (xs_of c.points) is.ascending) numbers in (
       omega arith,
       omega arith,
@@ -108,20 +107,6 @@ after-entries c range =
 
 -- ---- the certificate of entries
 
--- where a number is due, one in its range stands first
-number_first : (G : Type 0) (size : Size) (fault : CertKind) (low high : ℕ) (next : ℕ → Layout) (es : List Entry) → After (NumberField size fault low high next) es IsDone →
-    ((n : ℕ) (others : List Entry) → es ≡ Number n ∷ others → low ≤ n → n ≤ high → After (next n) others IsDone → G) → G
-number_first G size fault low high next [] after then = absurd after
-number_first G size fault low high next (Number n ∷ es) after then = then n es refl after.0 after.1 after.2
-number_first G size fault low high next (Bytes b ∷ es) after then = absurd after
-
--- where bytes are due, as many stand first
-bytes_first : (G : Type 0) (len : ℕ) (next : Layout) (es : List Entry) → After (BytesField len next) es IsDone →
-    ((b : List ℕ) (others : List Entry) → es ≡ Bytes b ∷ others → length b ≡ len → After next others IsDone → G) → G
-bytes_first G len next [] after then = absurd after
-bytes_first G len next (Number n ∷ es) after then = absurd after
-bytes_first G len next (Bytes b ∷ es) after then = then b es refl after.0 after.1
-
 -- numbers stand where so many are due
 record HasNumbers (m : ℕ) (es : List Entry) : Type 0 where
   numbers : List ℕ
@@ -129,12 +114,12 @@ record HasNumbers (m : ℕ) (es : List Entry) : Type 0 where
   many : length numbers ≡ m
   elements : AreElements numbers
 
-numbers_first : (m : ℕ) (es : List Entry) → After (numbers_layout m) es IsDone → HasNumbers m es
-numbers_first zero [] after = record { numbers = []; is = refl; many = refl; elements = All-nil (λ x. x < MODULUS) }
-numbers_first zero (e ∷ es) after = absurd after
-numbers_first (suc m) es after =
-    number_first (HasNumbers (suc m) es) _ _ _ _ _ es after (λ n others is _ high after1.
-    let more = numbers_first m others after1 in
+numbers_first : (end : Option CertKind) (m : ℕ) (es : List Entry) → After (numbers_layout m) es (IsEnd end) → HasNumbers m es
+numbers_first end zero [] after = record { numbers = []; is = refl; many = refl; elements = All-nil (λ x. x < MODULUS) }
+numbers_first end zero (e ∷ es) after = absurd after
+numbers_first end (suc m) es after =
+    number_first end (HasNumbers (suc m) es) _ _ _ _ _ es after (λ n others is _ high after1.
+    let more = numbers_first end m others after1 in
     record {
       numbers = n ∷ more.numbers;
       is = is ∙ ap (λ (l : List Entry). Number n ∷ l) more.is;
@@ -143,23 +128,24 @@ numbers_first (suc m) es after =
     })
 
 -- points stand where so many are due, and then the rest
-record HasPoints (n previous : ℕ) (rest : Layout) (es : List Entry) : Type 0 where
+record HasPoints (end : Option CertKind) (n previous : ℕ) (rest : Format CertKind) (es : List Entry) : Type 0 where
   points : List Point
   others : List Entry
   is : es ≡ point_entries points ++ others
   many : length points ≡ n
   are : All IsPoint points
   ascend : AscendFrom previous (xs_of points)
-  after : After rest others IsDone
+  after : After rest others (IsEnd end)
 
-points_first : (n previous : ℕ) (rest : Layout) (es : List Entry) → After (points_layout n previous rest) es IsDone → HasPoints n previous rest es
-points_first zero previous rest es after = record { points = []; others = es; is = refl; many = refl; are = All-nil IsPoint; ascend = tt; after = after }
-points_first (suc n) previous rest es after =
-    number_first (HasPoints (suc n) previous rest es) _ _ _ _ _ es after (λ x es1 x_is x_low x_high after1.
-    number_first (HasPoints (suc n) previous rest es) _ _ _ _ _ es1 after1 (λ y0 es2 y0_is _ y0_high after2.
-    number_first (HasPoints (suc n) previous rest es) _ _ _ _ _ es2 after2 (λ y1 es3 y1_is _ y1_high after3.
-    number_first (HasPoints (suc n) previous rest es) _ _ _ _ _ es3 after3 (λ y2 es4 y2_is _ y2_high after4.
-    let more = points_first n x rest es4 after4 in
+points_first : (end : Option CertKind) (n previous : ℕ) (rest : Format CertKind) (es : List Entry)
+    → After (points_layout n previous rest) es (IsEnd end) → HasPoints end n previous rest es
+points_first end zero previous rest es after = record { points = []; others = es; is = refl; many = refl; are = All-nil IsPoint; ascend = tt; after = after }
+points_first end (suc n) previous rest es after =
+    number_first end (HasPoints end (suc n) previous rest es) _ _ _ _ _ es after (λ x es1 x_is x_low x_high after1.
+    number_first end (HasPoints end (suc n) previous rest es) _ _ _ _ _ es1 after1 (λ y0 es2 y0_is _ y0_high after2.
+    number_first end (HasPoints end (suc n) previous rest es) _ _ _ _ _ es2 after2 (λ y1 es3 y1_is _ y1_high after3.
+    number_first end (HasPoints end (suc n) previous rest es) _ _ _ _ _ es3 after3 (λ y2 es4 y2_is _ y2_high after4.
+    let more = points_first end n x rest es4 after4 in
     let p : Point = record { x = x; y = y0 ∷ y1 ∷ y2 ∷ [] } in
     record {
       points = p ∷ more.points;
@@ -178,22 +164,22 @@ pub record HasCert (es : List Entry) : Type 0 where
   pub is : es ≡ entries cert
 
 -- entries in all fields are those of a certificate in range
-pub whole_entries : (es : List Entry) → After certificate es IsDone → HasCert es
-whole_entries es whole =
-    number_first (HasCert es) _ _ _ _ _ es whole (λ magic es1 magic_is magic_low magic_high whole1.
-    number_first (HasCert es) _ _ _ _ _ es1 whole1 (λ format es2 format_is format_low format_high whole2.
-    number_first (HasCert es) _ _ _ _ _ es2 whole2 (λ number es3 number_is number_low number_high whole3.
-    number_first (HasCert es) _ _ _ _ _ es3 whole3 (λ level es4 level_is _ level_high whole4.
-    number_first (HasCert es) _ _ _ _ _ es4 whole4 (λ epoch es5 epoch_is _ epoch_high whole5.
-    number_first (HasCert es) _ _ _ _ _ es5 whole5 (λ k es6 k_is k_low k_high whole6.
-    bytes_first (HasCert es) _ _ es6 whole6 (λ parent es7 parent_is parent_len whole7.
-    bytes_first (HasCert es) _ _ es7 whole7 (λ tag es8 tag_is tag_len whole8.
-    bytes_first (HasCert es) _ _ es8 whole8 (λ check es9 check_is check_len whole9.
-    number_first (HasCert es) _ _ _ _ _ es9 whole9 (λ b es10 b_is b_low b_high whole10.
-    bytes_first (HasCert es) _ _ es10 whole10 (λ boxed es11 boxed_is boxed_len whole11.
-    number_first (HasCert es) _ _ _ _ _ es11 whole11 (λ n es12 n_is _ n_high whole12.
-    let points = points_first n 0 (numbers_layout (3 * k)) es12 whole12 in
-    let numbers = numbers_first (3 * k) points.others points.after in
+pub whole_entries : (end : Option CertKind) (es : List Entry) → After certificate es (IsEnd end) → HasCert es
+whole_entries end es whole =
+    number_first end (HasCert es) _ _ _ _ _ es whole (λ magic es1 magic_is magic_low magic_high whole1.
+    number_first end (HasCert es) _ _ _ _ _ es1 whole1 (λ format es2 format_is format_low format_high whole2.
+    number_first end (HasCert es) _ _ _ _ _ es2 whole2 (λ number es3 number_is number_low number_high whole3.
+    number_first end (HasCert es) _ _ _ _ _ es3 whole3 (λ level es4 level_is _ level_high whole4.
+    number_first end (HasCert es) _ _ _ _ _ es4 whole4 (λ epoch es5 epoch_is _ epoch_high whole5.
+    number_first end (HasCert es) _ _ _ _ _ es5 whole5 (λ k es6 k_is k_low k_high whole6.
+    bytes_first end (HasCert es) _ _ es6 whole6 (λ parent es7 parent_is parent_len whole7.
+    bytes_first end (HasCert es) _ _ es7 whole7 (λ tag es8 tag_is tag_len whole8.
+    bytes_first end (HasCert es) _ _ es8 whole8 (λ check es9 check_is check_len whole9.
+    number_first end (HasCert es) _ _ _ _ _ es9 whole9 (λ b es10 b_is b_low b_high whole10.
+    bytes_first end (HasCert es) _ _ es10 whole10 (λ boxed es11 boxed_is boxed_len whole11.
+    number_first end (HasCert es) _ _ _ _ _ es11 whole11 (λ n es12 n_is _ n_high whole12.
+    let points = points_first end n 0 (numbers_layout (3 * k)) es12 whole12 in
+    let numbers = numbers_first end (3 * k) points.others points.after in
     let is_magic = le_antisymm magic_high magic_low in
     let is_format = le_antisymm format_high format_low in
     let is_number = number_of_version number number_low number_high in

@@ -5,5 +5,4 @@ pub mod Fronts
 pub mod Sound
 pub mod Spelt
 pub mod Steps
-pub mod Walk
 pub mod Whole

@@ -5,10 +5,11 @@ use Rattle.report_frame.specs.declared.version.Version.{Version}
 use Rattle.report_frame.specs.Versions.{version_number, version_of, max_level, max_threshold}
 use Rattle.report_frame.proofs.VersionFacts.{version_of_number, number_low, number_high}
 use Rattle.cert_audit.specs.declared.cert.Cert.{Cert}
-use Rattle.cert_audit.specs.Layout.{After, spelling}
+use Rattle.byte_format.specs.Format.{After, spelling}
 use Rattle.cert_audit.specs.Certificate.{InRange, certificate, numbers_layout, points_layout, front_entries, point_entries, number_entries, point_bytes, number_bytes, cert_spelling}
 use Rattle.cert_audit.specs.Reading.{reading}
-use Rattle.cert_audit.proofs.Steps.{spelling-append, spelling-points, spelling-numbers}
+use Rattle.byte_format.proofs.Spelt.{spelling-append}
+use Rattle.cert_audit.proofs.Steps.{spelling-points, spelling-numbers}
 use Rattle.cert_audit.proofs.CertLaws.{reading-cert}
 
 -- behind the first fields stand the points and the numbers

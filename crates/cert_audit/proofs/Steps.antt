@@ -1,19 +1,21 @@
 -- One point or number more, read and spelt.
-use Rattle.std.proofs.Common.{◌≡◌, ℕ, suc, ◌+◌, ◌-◌, ◌*◌, ◌<◌, List, [], ◌∷◌, ◌++◌, length, get_or, take, drop, Ok, Err, refl, sym, ap, ◌∙◌, append_assoc, arith}
+use Rattle.std.proofs.Common.{◌≡◌, ℕ, zero, suc, ◌+◌, ◌-◌, ◌*◌, ◌<◌, List, [], ◌∷◌, ◌++◌, length, get_or, take, drop, None, Ok, Err, refl, sym, ap, ◌∙◌, append_assoc, arith}
 use Rattle.std.specs.Int.{w64, to_be_bytes}
 use Rattle.std.proofs.lemmas.List.{take_more, drop-drop}
 use Rattle.field61.specs.declared.TheConstants.{MODULUS}
-use Rattle.report_frame.specs.Format.{Entry, width}
-use Rattle.report_frame.specs.Format.Size.{EightBytes}
-use Rattle.report_frame.specs.Format.Entry.{Number, Bytes}
+use Rattle.byte_format.specs.Format.{Format, Entry, spelling}
+use Rattle.byte_format.specs.Format.Size.{EightBytes}
+use Rattle.byte_format.specs.Format.Entry.{Number}
 use Rattle.shamir_limbs.specs.declared.share.Point.{Point}
+use Rattle.cert_audit.specs.declared.kind.CertKind.{CertKind}
 use Rattle.cert_audit.specs.declared.kind.CertKind.TheVariants.{Range}
 use Rattle.cert_audit.specs.declared.fault.CertFault.{CertFault}
-use Rattle.cert_audit.specs.Layout.{Layout, After, spelling}
-use Rattle.cert_audit.specs.Layout.Layout.{Done, NumberField, BytesField}
+use Rattle.byte_format.specs.Format.Format.{End, NumberField}
 use Rattle.cert_audit.specs.Certificate.{numbers_layout, points_layout, entries_of_point, point_entries, number_entries, bytes_of_point, point_bytes, number_bytes}
-use Rattle.cert_audit.specs.Reading.{number_at, read}
-use Rattle.cert_audit.proofs.Walk.{Answer, read-number, read-number_fault, read-done}
+use Rattle.byte_format.specs.Reading.{number_at, read}
+use Rattle.byte_format.proofs.OneField.{read-number, read-number_behind, read-number_fault}
+use Rattle.byte_format.proofs.Spelt.{read_end}
+use Rattle.cert_audit.specs.Reading.{certs, Answer}
 
 -- ---- reading
 
@@ -25,69 +27,56 @@ number_entries-push : (numbers : List ℕ) (n : ℕ) → number_entries (numbers
 number_entries-push [] n = refl
 number_entries-push (m ∷ ms) n = ap (λ (l : List Entry). Number m ∷ l) (number_entries-push ms n)
 
--- a field number, and then the rest
-abbrev field : Layout → Layout
-field rest = NumberField EightBytes Range 0 (MODULUS - 1) (λ _. rest)
+-- so many field numbers, and then the rest
+abbrev pub elements : ℕ → Format CertKind → Format CertKind
+elements zero rest = rest
+elements (suc m) rest = NumberField EightBytes Range 0 (MODULUS - 1) (λ _. elements m rest)
 
--- what is left of the numbers of a point
-abbrev after_x : ℕ → ℕ → Layout → Layout
-after_x n x next = field (field (field (points_layout n x next)))
+-- the x of a point is read, then its first share, its second and its third
+pub x_read : (above at n x : ℕ) (next : Format CertKind) (before : List Entry) (b0 b1 : List ℕ)
+    → number_at certs EightBytes Range (above + 1) (MODULUS - 1) at b0 ≡ Ok (x, b1)
+    → read certs (points_layout (suc n) above next) at before b0 ≡ read certs (elements 3 (points_layout n x next)) (at + 8) (before ++ Number x ∷ []) b1
+x_read above at n x next before b0 b1 x_is =
+    read-number certs EightBytes Range (above + 1) (MODULUS - 1) (λ x. elements 3 (points_layout n x next)) at at before b0 x b1 refl x_is
 
-one_read : (rest : Layout) (at place : ℕ) (before : List Entry) (bytes : List ℕ) (n : ℕ) (tail : List ℕ) → at ≡ place → number_at EightBytes Range 0 (MODULUS - 1) place bytes ≡ Ok (n, tail)
-    → read (field rest) at before bytes ≡ read rest (place + 8) (before ++ Number n ∷ []) tail
-one_read rest at place before bytes n tail same is = read-number EightBytes Range 0 (MODULUS - 1) (λ _. rest) at place before bytes n tail same is
+pub y0_read : (above at n x y0 : ℕ) (next : Format CertKind) (before : List Entry) (b0 b1 b2 : List ℕ)
+    → number_at certs EightBytes Range (above + 1) (MODULUS - 1) at b0 ≡ Ok (x, b1)
+    → number_at certs EightBytes Range 0 (MODULUS - 1) (at + 8) b1 ≡ Ok (y0, b2)
+    → read certs (points_layout (suc n) above next) at before b0
+    ≡ read certs (elements 2 (points_layout n x next)) (at + 16) (before ++ Number x ∷ Number y0 ∷ []) b2
+y0_read above at n x y0 next before b0 b1 b2 x_is y0_is =
+    x_read above at n x next before b0 b1 x_is
+    ∙ read-number_behind certs EightBytes Range 0 (MODULUS - 1) (λ _. elements 2 (points_layout n x next)) (at + 8) (at + 16) before (Number x ∷ [])
+    b1 y0 b2 y0_is (omega arith)
 
-one_fault : (rest : Layout) (at place : ℕ) (before : List Entry) (bytes : List ℕ) (f : CertFault) → at ≡ place → number_at EightBytes Range 0 (MODULUS - 1) place bytes ≡ Err f → read (field rest) at before bytes ≡ Err f
-one_fault rest at place before bytes f same is = read-number_fault EightBytes Range 0 (MODULUS - 1) (λ _. rest) at place before bytes f same is
+pub y1_read : (above at n x y0 y1 : ℕ) (next : Format CertKind) (before : List Entry) (b0 b1 b2 b3 : List ℕ)
+    → number_at certs EightBytes Range (above + 1) (MODULUS - 1) at b0 ≡ Ok (x, b1)
+    → number_at certs EightBytes Range 0 (MODULUS - 1) (at + 8) b1 ≡ Ok (y0, b2)
+    → number_at certs EightBytes Range 0 (MODULUS - 1) (at + 16) b2 ≡ Ok (y1, b3)
+    → read certs (points_layout (suc n) above next) at before b0
+    ≡ read certs (elements 1 (points_layout n x next)) (at + 24) (before ++ Number x ∷ Number y0 ∷ Number y1 ∷ []) b3
+y1_read above at n x y0 y1 next before b0 b1 b2 b3 x_is y0_is y1_is =
+    y0_read above at n x y0 next before b0 b1 b2 x_is y0_is
+    ∙ read-number_behind certs EightBytes Range 0 (MODULUS - 1) (λ _. elements 1 (points_layout n x next)) (at + 16) (at + 24) before
+    (Number x ∷ Number y0 ∷ []) b2 y1 b3 y1_is (omega arith)
 
-pub x_read : (above at n x : ℕ) (next : Layout) (before : List Entry) (bytes tail : List ℕ) → number_at EightBytes Range (above + 1) (MODULUS - 1) at bytes ≡ Ok (x, tail)
-    → read (points_layout (suc n) above next) at before bytes ≡ read (after_x n x next) (at + 8) (before ++ Number x ∷ []) tail
-x_read above at n x next before bytes tail is = read-number EightBytes Range (above + 1) (MODULUS - 1) (λ x. after_x n x next) at at before bytes x tail refl is
+pub y2_read : (above at n x y0 y1 y2 : ℕ) (next : Format CertKind) (before : List Entry) (b0 b1 b2 b3 b4 : List ℕ)
+    → number_at certs EightBytes Range (above + 1) (MODULUS - 1) at b0 ≡ Ok (x, b1)
+    → number_at certs EightBytes Range 0 (MODULUS - 1) (at + 8) b1 ≡ Ok (y0, b2)
+    → number_at certs EightBytes Range 0 (MODULUS - 1) (at + 16) b2 ≡ Ok (y1, b3)
+    → number_at certs EightBytes Range 0 (MODULUS - 1) (at + 24) b3 ≡ Ok (y2, b4)
+    → read certs (points_layout (suc n) above next) at before b0
+    ≡ read certs (points_layout n x next) (at + 32) (before ++ Number x ∷ Number y0 ∷ Number y1 ∷ Number y2 ∷ []) b4
+y2_read above at n x y0 y1 y2 next before b0 b1 b2 b3 b4 x_is y0_is y1_is y2_is =
+    y1_read above at n x y0 y1 next before b0 b1 b2 b3 x_is y0_is y1_is
+    ∙ read-number_behind certs EightBytes Range 0 (MODULUS - 1) (λ _. points_layout n x next) (at + 24) (at + 32) before
+    (Number x ∷ Number y0 ∷ Number y1 ∷ []) b3 y2 b4 y2_is (omega arith)
 
-pub x_fault : (above at n : ℕ) (next : Layout) (before : List Entry) (bytes : List ℕ) (f : CertFault) → number_at EightBytes Range (above + 1) (MODULUS - 1) at bytes ≡ Err f
-    → read (points_layout (suc n) above next) at before bytes ≡ Err f
-x_fault above at n next before bytes f is = read-number_fault EightBytes Range (above + 1) (MODULUS - 1) (λ x. after_x n x next) at at before bytes f refl is
-
-pub y0_read : (at n x y0 : ℕ) (next : Layout) (before : List Entry) (bytes tail : List ℕ) → number_at EightBytes Range 0 (MODULUS - 1) (at + 8) bytes ≡ Ok (y0, tail)
-    → read (after_x n x next) (at + 8) (before ++ Number x ∷ []) bytes ≡ read (field (field (points_layout n x next))) (at + 16) (before ++ Number x ∷ Number y0 ∷ []) tail
-y0_read at n x y0 next before bytes tail is =
-    one_read (field (field (points_layout n x next))) (at + 8) (at + 8) (before ++ Number x ∷ []) bytes y0 tail refl is
-    ∙ ap (λ (a : ℕ). read (field (field (points_layout n x next))) a (before ++ Number x ∷ [] ++ Number y0 ∷ []) tail) (omega arith)
-    ∙ ap (λ (es : List Entry). read (field (field (points_layout n x next))) (at + 16) es tail) (append_assoc before (Number x ∷ []) (Number y0 ∷ []))
-
-pub y0_fault : (at n x : ℕ) (next : Layout) (before : List Entry) (bytes : List ℕ) (f : CertFault) → number_at EightBytes Range 0 (MODULUS - 1) (at + 8) bytes ≡ Err f
-    → read (after_x n x next) (at + 8) (before ++ Number x ∷ []) bytes ≡ Err f
-y0_fault at n x next before bytes f is = one_fault (field (field (points_layout n x next))) (at + 8) (at + 8) (before ++ Number x ∷ []) bytes f refl is
-
-pub y1_read : (at n x y0 y1 : ℕ) (next : Layout) (before : List Entry) (bytes tail : List ℕ) → number_at EightBytes Range 0 (MODULUS - 1) (at + 16) bytes ≡ Ok (y1, tail)
-    → read (field (field (points_layout n x next))) (at + 16) (before ++ Number x ∷ Number y0 ∷ []) bytes ≡ read (field (points_layout n x next)) (at + 24) (before ++ Number x ∷ Number y0 ∷ Number y1 ∷ []) tail
-y1_read at n x y0 y1 next before bytes tail is =
-    one_read (field (points_layout n x next)) (at + 16) (at + 16) (before ++ Number x ∷ Number y0 ∷ []) bytes y1 tail refl is
-    ∙ ap (λ (a : ℕ). read (field (points_layout n x next)) a (before ++ Number x ∷ Number y0 ∷ [] ++ Number y1 ∷ []) tail) (omega arith)
-    ∙ ap (λ (es : List Entry). read (field (points_layout n x next)) (at + 24) es tail) (append_assoc before (Number x ∷ Number y0 ∷ []) (Number y1 ∷ []))
-
-pub y1_fault : (at n x y0 : ℕ) (next : Layout) (before : List Entry) (bytes : List ℕ) (f : CertFault) → number_at EightBytes Range 0 (MODULUS - 1) (at + 16) bytes ≡ Err f
-    → read (field (field (points_layout n x next))) (at + 16) (before ++ Number x ∷ Number y0 ∷ []) bytes ≡ Err f
-y1_fault at n x y0 next before bytes f is = one_fault (field (points_layout n x next)) (at + 16) (at + 16) (before ++ Number x ∷ Number y0 ∷ []) bytes f refl is
-
-pub y2_read : (at n x y0 y1 y2 : ℕ) (next : Layout) (before : List Entry) (bytes tail : List ℕ) → number_at EightBytes Range 0 (MODULUS - 1) (at + 24) bytes ≡ Ok (y2, tail)
-    → read (field (points_layout n x next)) (at + 24) (before ++ Number x ∷ Number y0 ∷ Number y1 ∷ []) bytes
-    ≡ read (points_layout n x next) (at + 32) (before ++ Number x ∷ Number y0 ∷ Number y1 ∷ Number y2 ∷ []) tail
-y2_read at n x y0 y1 y2 next before bytes tail is =
-    one_read (points_layout n x next) (at + 24) (at + 24) (before ++ Number x ∷ Number y0 ∷ Number y1 ∷ []) bytes y2 tail refl is
-    ∙ ap (λ (a : ℕ). read (points_layout n x next) a (before ++ Number x ∷ Number y0 ∷ Number y1 ∷ [] ++ Number y2 ∷ []) tail) (omega arith)
-    ∙ ap (λ (es : List Entry). read (points_layout n x next) (at + 32) es tail) (append_assoc before (Number x ∷ Number y0 ∷ Number y1 ∷ []) (Number y2 ∷ []))
-
-pub y2_fault : (at n x y0 y1 : ℕ) (next : Layout) (before : List Entry) (bytes : List ℕ) (f : CertFault) → number_at EightBytes Range 0 (MODULUS - 1) (at + 24) bytes ≡ Err f
-    → read (field (points_layout n x next)) (at + 24) (before ++ Number x ∷ Number y0 ∷ Number y1 ∷ []) bytes ≡ Err f
-y2_fault at n x y0 y1 next before bytes f is = one_fault (points_layout n x next) (at + 24) (at + 24) (before ++ Number x ∷ Number y0 ∷ Number y1 ∷ []) bytes f refl is
-
-pub number_read : (m at n : ℕ) (before : List Entry) (bytes tail : List ℕ) → number_at EightBytes Range 0 (MODULUS - 1) at bytes ≡ Ok (n, tail)
-    → read (numbers_layout (suc m)) at before bytes ≡ read (numbers_layout m) (at + 8) (before ++ Number n ∷ []) tail
-number_read m at n before bytes tail is = one_read (numbers_layout m) at at before bytes n tail refl is
-
-pub number_fault : (m at : ℕ) (before : List Entry) (bytes : List ℕ) (f : CertFault) → number_at EightBytes Range 0 (MODULUS - 1) at bytes ≡ Err f → read (numbers_layout (suc m)) at before bytes ≡ Err f
-number_fault m at before bytes f is = one_fault (numbers_layout m) at at before bytes f refl is
+-- a fault of the next number is the fault
+pub element_fault : (low at : ℕ) (next : ℕ → Format CertKind) (before : List Entry) (bytes : List ℕ) (f : CertFault)
+    → number_at certs EightBytes Range low (MODULUS - 1) at bytes ≡ Err f
+    → read certs (NumberField EightBytes Range low (MODULUS - 1) next) at before bytes ≡ Err f
+element_fault low at next before bytes f is = read-number_fault certs EightBytes Range low (MODULUS - 1) next at at before bytes f refl is
 
 -- what is left behind some bytes and more of them
 pub drop-behind : (m n : ℕ) (bytes tail other : List ℕ) → tail ≡ drop m bytes → other ≡ drop n tail → other ≡ drop (m + n) bytes
@@ -98,52 +87,52 @@ one_left : (n i : ℕ) → i < n → n - i ≡ suc (n - (i + 1))
 one_left n i less = omega arith
 
 -- reading so many points is reading the rest of them, where this many are left and this point comes next
-pub points_next : (n i above at : ℕ) (next : Layout) (before : List Entry) (points : List Point) (bytes : List ℕ) (start : Answer) → i < n
-    → start ≡ read (points_layout (n - i) above next) (at + 32 * i) (before ++ point_entries points) bytes
-    → start ≡ read (points_layout (suc (n - (i + 1))) above next) (at + 32 * i) (before ++ point_entries points) bytes
+pub points_next : (n i above at : ℕ) (next : Format CertKind) (before : List Entry) (points : List Point) (bytes : List ℕ) (start : Answer) → i < n
+    → start ≡ read certs (points_layout (n - i) above next) (at + 32 * i) (before ++ point_entries points) bytes
+    → start ≡ read certs (points_layout (suc (n - (i + 1))) above next) (at + 32 * i) (before ++ point_entries points) bytes
 points_next n i above at next before points bytes start less is =
-    is ∙ ap (λ (m : ℕ). read (points_layout m above next) (at + 32 * i) (before ++ point_entries points) bytes) (one_left n i less)
+    is ∙ ap (λ (m : ℕ). read certs (points_layout m above next) (at + 32 * i) (before ++ point_entries points) bytes) (one_left n i less)
 
-pub points_more : (n i at : ℕ) (next : Layout) (before : List Entry) (points : List Point) (p : Point) (bytes : List ℕ) (start : Answer)
-    → start ≡ read (points_layout (n - (i + 1)) p.x next) (at + 32 * i + 32) (before ++ point_entries points ++ entries_of_point p) bytes
-    → start ≡ read (points_layout (n - (i + 1)) p.x next) (at + 32 * (i + 1)) (before ++ point_entries (points ++ p ∷ [])) bytes
+pub points_more : (n i at : ℕ) (next : Format CertKind) (before : List Entry) (points : List Point) (p : Point) (bytes : List ℕ) (start : Answer)
+    → start ≡ read certs (points_layout (n - (i + 1)) p.x next) (at + 32 * i + 32) (before ++ point_entries points ++ entries_of_point p) bytes
+    → start ≡ read certs (points_layout (n - (i + 1)) p.x next) (at + 32 * (i + 1)) (before ++ point_entries (points ++ p ∷ [])) bytes
 points_more n i at next before points p bytes start is =
-    is ∙ ap (λ (a : ℕ). read (points_layout (n - (i + 1)) p.x next) a (before ++ point_entries points ++ entries_of_point p) bytes) (omega arith)
-    ∙ ap (λ (es : List Entry). read (points_layout (n - (i + 1)) p.x next) (at + 32 * (i + 1)) es bytes)
+    is ∙ ap (λ (a : ℕ). read certs (points_layout (n - (i + 1)) p.x next) a (before ++ point_entries points ++ entries_of_point p) bytes) (omega arith)
+    ∙ ap (λ (es : List Entry). read certs (points_layout (n - (i + 1)) p.x next) (at + 32 * (i + 1)) es bytes)
     (append_assoc before (point_entries points) (entries_of_point p) ∙ ap (λ (l : List Entry). before ++ l) (sym (point_entries-push points p)))
 
 -- and none is left at the end
-pub points_all : (n i above at : ℕ) (next : Layout) (before : List Entry) (points : List Point) (bytes : List ℕ) (start : Answer) → i ≡ n
-    → start ≡ read (points_layout (n - i) above next) (at + 32 * i) (before ++ point_entries points) bytes
-    → start ≡ read next (at + 32 * n) (before ++ point_entries points) bytes
+pub points_all : (n i above at : ℕ) (next : Format CertKind) (before : List Entry) (points : List Point) (bytes : List ℕ) (start : Answer) → i ≡ n
+    → start ≡ read certs (points_layout (n - i) above next) (at + 32 * i) (before ++ point_entries points) bytes
+    → start ≡ read certs next (at + 32 * n) (before ++ point_entries points) bytes
 points_all n i above at next before points bytes start all is =
     let none : n - i ≡ 0 = omega arith in
-    is ∙ ap (λ (m : ℕ). read (points_layout m above next) (at + 32 * i) (before ++ point_entries points) bytes) none
-    ∙ ap (λ (m : ℕ). read next (at + 32 * m) (before ++ point_entries points) bytes) all
+    is ∙ ap (λ (m : ℕ). read certs (points_layout m above next) (at + 32 * i) (before ++ point_entries points) bytes) none
+    ∙ ap (λ (m : ℕ). read certs next (at + 32 * m) (before ++ point_entries points) bytes) all
 
 -- the same of numbers
 pub numbers_next : (n i at : ℕ) (before : List Entry) (numbers : List ℕ) (bytes : List ℕ) (start : Answer) → i < n
-    → start ≡ read (numbers_layout (n - i)) (at + 8 * i) (before ++ number_entries numbers) bytes
-    → start ≡ read (numbers_layout (suc (n - (i + 1)))) (at + 8 * i) (before ++ number_entries numbers) bytes
+    → start ≡ read certs (numbers_layout (n - i)) (at + 8 * i) (before ++ number_entries numbers) bytes
+    → start ≡ read certs (numbers_layout (suc (n - (i + 1)))) (at + 8 * i) (before ++ number_entries numbers) bytes
 numbers_next n i at before numbers bytes start less is =
-    is ∙ ap (λ (m : ℕ). read (numbers_layout m) (at + 8 * i) (before ++ number_entries numbers) bytes) (one_left n i less)
+    is ∙ ap (λ (m : ℕ). read certs (numbers_layout m) (at + 8 * i) (before ++ number_entries numbers) bytes) (one_left n i less)
 
 pub numbers_more : (n i at : ℕ) (before : List Entry) (numbers : List ℕ) (x : ℕ) (bytes : List ℕ) (start : Answer)
-    → start ≡ read (numbers_layout (n - (i + 1))) (at + 8 * i + 8) (before ++ number_entries numbers ++ Number x ∷ []) bytes
-    → start ≡ read (numbers_layout (n - (i + 1))) (at + 8 * (i + 1)) (before ++ number_entries (numbers ++ x ∷ [])) bytes
+    → start ≡ read certs (numbers_layout (n - (i + 1))) (at + 8 * i + 8) (before ++ number_entries numbers ++ Number x ∷ []) bytes
+    → start ≡ read certs (numbers_layout (n - (i + 1))) (at + 8 * (i + 1)) (before ++ number_entries (numbers ++ x ∷ [])) bytes
 numbers_more n i at before numbers x bytes start is =
-    is ∙ ap (λ (a : ℕ). read (numbers_layout (n - (i + 1))) a (before ++ number_entries numbers ++ Number x ∷ []) bytes) (omega arith)
-    ∙ ap (λ (es : List Entry). read (numbers_layout (n - (i + 1))) (at + 8 * (i + 1)) es bytes)
+    is ∙ ap (λ (a : ℕ). read certs (numbers_layout (n - (i + 1))) a (before ++ number_entries numbers ++ Number x ∷ []) bytes) (omega arith)
+    ∙ ap (λ (es : List Entry). read certs (numbers_layout (n - (i + 1))) (at + 8 * (i + 1)) es bytes)
     (append_assoc before (number_entries numbers) (Number x ∷ []) ∙ ap (λ (l : List Entry). before ++ l) (sym (number_entries-push numbers x)))
 
 pub numbers_all : (n i at : ℕ) (before : List Entry) (numbers : List ℕ) (bytes : List ℕ) (start : Answer) → i ≡ n
-    → start ≡ read (numbers_layout (n - i)) (at + 8 * i) (before ++ number_entries numbers) bytes
+    → start ≡ read certs (numbers_layout (n - i)) (at + 8 * i) (before ++ number_entries numbers) bytes
     → start ≡ Ok (before ++ number_entries numbers, at + 8 * n)
 numbers_all n i at before numbers bytes start all is =
     let none : n - i ≡ 0 = omega arith in
-    is ∙ ap (λ (m : ℕ). read (numbers_layout m) (at + 8 * i) (before ++ number_entries numbers) bytes) none
-    ∙ ap (λ (m : ℕ). read Done (at + 8 * m) (before ++ number_entries numbers) bytes) all
-    ∙ read-done (at + 8 * n) (before ++ number_entries numbers) bytes
+    is ∙ ap (λ (m : ℕ). read certs (numbers_layout m) (at + 8 * i) (before ++ number_entries numbers) bytes) none
+    ∙ ap (λ (m : ℕ). read certs (End None) (at + 8 * m) (before ++ number_entries numbers) bytes) all
+    ∙ read_end certs (End None) (at + 8 * n) (before ++ number_entries numbers) None bytes refl tt
 
 -- ---- spelling
 
@@ -169,20 +158,8 @@ number_bytes-more numbers i n within is =
     ap number_bytes (take_more numbers i n within) ∙ number_bytes-push (take i numbers) (get_or numbers i n)
     ∙ ap (λ (m : ℕ). number_bytes (take i numbers) ++ to_be_bytes w64 m) (sym is)
 
--- what stands behind entries is spelt behind them
-pub spelling-append : (layout next : Layout) (es tail : List Entry) → After layout es (λ l. l ≡ next) → spelling layout (es ++ tail) ≡ spelling layout es ++ spelling next tail
-spelling-append layout next [] tail after = ap (λ (l : Layout). spelling l tail) after
-spelling-append Done next (e ∷ es) tail after = absurd after
-spelling-append (NumberField size fault low high others) next (Number n ∷ es) tail after =
-    ap (λ (l : List ℕ). to_be_bytes (width size) n ++ l) (spelling-append (others n) next es tail after.2)
-    ∙ sym (append_assoc (to_be_bytes (width size) n) (spelling (others n) es) (spelling next tail))
-spelling-append (NumberField size fault low high others) next (Bytes b ∷ es) tail after = absurd after
-spelling-append (BytesField len others) next (Number n ∷ es) tail after = absurd after
-spelling-append (BytesField len others) next (Bytes b ∷ es) tail after =
-    ap (λ (l : List ℕ). b ++ l) (spelling-append others next es tail after.1) ∙ sym (append_assoc b (spelling others es) (spelling next tail))
-
 -- points and numbers are spelt as their bytes
-pub spelling-points : (points : List Point) (previous : ℕ) (rest : Layout) (tail : List Entry) → spelling (points_layout (length points) previous rest) (point_entries points ++ tail) ≡ point_bytes points ++ spelling rest tail
+pub spelling-points : (points : List Point) (previous : ℕ) (rest : Format CertKind) (tail : List Entry) → spelling (points_layout (length points) previous rest) (point_entries points ++ tail) ≡ point_bytes points ++ spelling rest tail
 spelling-points [] previous rest tail = refl
 spelling-points (p ∷ ps) previous rest tail =
     ap (λ (l : List ℕ). bytes_of_point p ++ l) (spelling-points ps p.x rest tail)

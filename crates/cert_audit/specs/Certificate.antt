@@ -1,5 +1,5 @@
 -- A certificate, its one spelling, and the one fault of bytes that begin with none (docs/FORMATS.md).
-use Rattle.std.specs.Prelude.{◌≡◌, ℕ, zero, suc, ◌+◌, ◌-◌, ◌*◌, ◌^◌, ◌<◌, ◌≤◌, List, [], ◌∷◌, ◌++◌, length, map, slice_index, All}
+use Rattle.std.specs.Prelude.{◌≡◌, ℕ, zero, suc, ◌+◌, ◌-◌, ◌*◌, ◌^◌, ◌<◌, ◌≤◌, List, [], ◌∷◌, ◌++◌, length, map, slice_index, None, All}
 use Rattle.std.specs.Int.{w64, to_be_bytes}
 use Rattle.std.specs.List.Sorted.{IsStrictlyIncreasing}
 use Rattle.field61.specs.declared.TheConstants.{MODULUS}
@@ -8,17 +8,16 @@ use Rattle.report_frame.specs.declared.limits.TheConstants.{MIN_THRESHOLD, TAG_B
 use Rattle.report_frame.specs.declared.version.Version.{Version}
 use Rattle.report_frame.specs.declared.version.Version.TheVariants.{One, Two}
 use Rattle.report_frame.specs.Versions.{version_number, version_of, max_level, max_threshold}
-use Rattle.report_frame.specs.Format.{Entry}
-use Rattle.report_frame.specs.Format.Size.{OneByte, TwoBytes, FourBytes, EightBytes}
-use Rattle.report_frame.specs.Format.Entry.{Number, Bytes}
+use Rattle.byte_format.specs.Format.{Format, Entry, After, spelling, IsWrong}
+use Rattle.byte_format.specs.Format.Size.{OneByte, TwoBytes, FourBytes, EightBytes}
+use Rattle.byte_format.specs.Format.Entry.{Number, Bytes}
+use Rattle.byte_format.specs.Format.Format.{End, NumberField, BytesField}
 use Rattle.shamir_limbs.specs.declared.share.Point.{Point}
 use Rattle.shamir_limbs.specs.KeyLine.{xs_of}
 use Rattle.cert_audit.specs.declared.kind.CertKind.{CertKind}
-use Rattle.cert_audit.specs.declared.kind.CertKind.TheVariants.{Magic, Format, Range}
+use Rattle.cert_audit.specs.declared.kind.CertKind.TheVariants.{Truncated, Magic, Format as FormatFault, Range}
 use Rattle.cert_audit.specs.declared.limits.TheConstants.{CERT_MAGIC, CERT_FORMAT, MAX_POINTS}
 use Rattle.cert_audit.specs.declared.cert.Cert.{Cert}
-use Rattle.cert_audit.specs.Layout.{Layout, After, spelling, IsWrong}
-use Rattle.cert_audit.specs.Layout.Layout.{Done, NumberField, BytesField}
 
 -- ---- certificates
 
@@ -55,12 +54,12 @@ pub record InRange (c : Cert) : Type 0 where
 -- ---- the layout
 
 -- so many field numbers
-abbrev pub numbers_layout : ℕ → Layout
-numbers_layout zero = Done
+abbrev pub numbers_layout : ℕ → Format CertKind
+numbers_layout zero = End None
 numbers_layout (suc m) = NumberField EightBytes Range 0 (MODULUS - 1) (λ _. numbers_layout m)
 
 -- so many points, each with an x above the one before it, and then the rest
-abbrev pub points_layout : ℕ → ℕ → Layout → Layout
+abbrev pub points_layout : ℕ → ℕ → Format CertKind → Format CertKind
 points_layout zero previous rest = rest
 points_layout (suc n) previous rest =
     NumberField EightBytes Range (previous + 1) (MODULUS - 1) (λ x.
@@ -69,7 +68,7 @@ points_layout (suc n) previous rest =
     NumberField EightBytes Range 0 (MODULUS - 1) (λ _. points_layout n x rest))))
 
 -- The fields behind the threshold.
-abbrev pub behind_threshold : ℕ → Layout
+abbrev pub behind_threshold : ℕ → Format CertKind
 behind_threshold k =
     BytesField CHECK_BYTES (
     BytesField TAG_BYTES (
@@ -79,17 +78,17 @@ behind_threshold k =
     NumberField FourBytes Range 0 MAX_POINTS (λ n. points_layout n 0 (numbers_layout (3 * k))))))))
 
 -- The fields behind the version, which gives the ranges of level and threshold. The epoch may be any number of four bytes.
-abbrev pub behind_version : Version → Layout
+abbrev pub behind_version : Version → Format CertKind
 behind_version version =
     NumberField OneByte Range 0 (max_level version) (λ _.
     NumberField FourBytes Range 0 (2 ^ 32 - 1) (λ _.
     NumberField TwoBytes Range MIN_THRESHOLD (max_threshold version) (λ k. behind_threshold k)))
 
 -- And all of them.
-abbrev pub certificate : Layout
+abbrev pub certificate : Format CertKind
 certificate =
     NumberField EightBytes Magic CERT_MAGIC CERT_MAGIC (λ _.
-    NumberField OneByte Format CERT_FORMAT CERT_FORMAT (λ _.
+    NumberField OneByte FormatFault CERT_FORMAT CERT_FORMAT (λ _.
     NumberField OneByte Range (version_number One) (version_number Two) (λ number. behind_version (version_of number))))
 
 -- what a certificate puts into the fields up to the threshold
@@ -156,4 +155,4 @@ pub record FaultAt (bytes : List ℕ) (kind : CertKind) (at : ℕ) : Type 0 wher
   pub rest : List ℕ
   pub spelt : bytes ≡ spelling certificate first ++ rest
   pub place : at ≡ length (spelling certificate first)
-  pub wrong : After certificate first (IsWrong rest kind)
+  pub wrong : After certificate first (IsWrong Truncated rest kind)

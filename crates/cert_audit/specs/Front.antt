@@ -2,8 +2,8 @@
 use Rattle.std.specs.Prelude.{List, [], ◌∷◌, length}
 use Rattle.report_frame.specs.declared.head.Head.{Head}
 use Rattle.report_frame.specs.Versions.{version_number}
-use Rattle.report_frame.specs.Format.{Entry}
-use Rattle.report_frame.specs.Format.Entry.{Number, Bytes}
+use Rattle.byte_format.specs.Format.{Entry}
+use Rattle.byte_format.specs.Format.Entry.{Number, Bytes}
 use Rattle.cert_audit.specs.declared.limits.TheConstants.{CERT_MAGIC, CERT_FORMAT}
 use Rattle.cert_audit.specs.declared.front.Start.{Start}
 use Rattle.cert_audit.specs.declared.front.Front.{Front}

@@ -2,7 +2,6 @@ pub mod Audit
 pub mod Certificate
 pub mod Front
 pub mod Laws
-pub mod Layout
 pub mod Names
 pub mod Points
 pub mod Reading

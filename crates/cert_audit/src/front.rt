@@ -1,11 +1,12 @@
 // The fields of a certificate before its points.
 ghost use Rattle.std.specs.Prelude.{◌≡◌, ◌≤◌, ◌*◌, [], length, IfOk, IfErr, Err};
-ghost use Rattle.report_frame.specs.Format.Size.{OneByte};
+ghost use Rattle.byte_format.specs.Format.Size.{OneByte};
 ghost use Rattle.report_frame.specs.Versions.{version_number};
 ghost use Rattle.report_frame.specs.declared.version.Version.TheVariants.{One, Two};
 ghost use Rattle.cert_audit.specs.Certificate.{certificate, behind_threshold, points_layout, numbers_layout};
 ghost use Rattle.cert_audit.specs.Front.{entries_of_start, entries_of_front};
-ghost use Rattle.cert_audit.specs.Reading.{Gives, number_at, read};
+ghost use Rattle.byte_format.specs.Reading.{Gives, number_at, read};
+ghost use Rattle.cert_audit.specs.Reading.{certs};
 ghost use Rattle.cert_audit.specs.declared.kind.CertKind.TheVariants.{Range};
 
 use crate::fault::CertFault;
@@ -59,12 +60,12 @@ pub(crate) struct Front<'a> {
 }
 
 /// The fields before the points, or the first fault among them.
-#[tactic(auto, unfolding(crate::specs::Reading::read))]
+#[tactic(auto, unfolding(byte_format::specs::Reading::read))]
 pub(crate) fn read_front(bytes: &[u8]) -> Result<Front<'_>, CertFault>
-    ensures ok { IfOk result (λ f. read certificate 0 [] bytes.now
-        ≡ read (points_layout f.points 0 (numbers_layout (3 * f.start.k))) f.at (entries_of_front f)
+    ensures ok { IfOk result (λ f. read certs certificate 0 [] bytes.now
+        ≡ read certs (points_layout f.points 0 (numbers_layout (3 * f.start.k))) f.at (entries_of_front f)
         f.rest.now) }
-    ensures fault { IfErr result (λ e. read certificate 0 [] bytes.now ≡ Err e) }
+    ensures fault { IfErr result (λ e. read certs certificate 0 [] bytes.now ≡ Err e) }
     ensures box_low { IfOk result (λ f. 1 ≤ length f.boxed.now) }
     ensures box_high { IfOk result (λ f. length f.boxed.now ≤ MAX_VALUE) }
     ensures place { IfOk result (λ f. f.at ≤ 200) }
@@ -87,7 +88,7 @@ pub(crate) fn read_front(bytes: &[u8]) -> Result<Front<'_>, CertFault>
 // The version, and what follows it.
 fn read_version(bytes: &[u8]) -> Result<(Version, &[u8]), CertFault>
     ensures { Gives (λ x. (version_number x.0, x.1.now)) result
-        (number_at OneByte Range (version_number One) (version_number Two) VERSION_AT bytes.now) }
+        (number_at certs OneByte Range (version_number One) (version_number Two) VERSION_AT bytes.now) }
 {
     let (front, rest) = read_bytes(bytes, VERSION_AT, 1)?;
     match Version::of(front[0]) {
@@ -100,14 +101,14 @@ fn read_version(bytes: &[u8]) -> Result<(Version, &[u8]), CertFault>
 }
 
 // The fields behind the threshold up to the number of points.
-#[tactic(auto, unfolding(crate::specs::Reading::read))]
+#[tactic(auto, unfolding(byte_format::specs::Reading::read))]
 fn read_behind(start: Start, bytes: &[u8]) -> Result<Front<'_>, CertFault>
     ensures ok { IfOk result (λ f.
-        read (behind_threshold start.k) PARENT_AT (entries_of_start start) bytes.now
-        ≡ read (points_layout f.points 0 (numbers_layout (3 * f.start.k))) f.at (entries_of_front f)
+        read certs (behind_threshold start.k) PARENT_AT (entries_of_start start) bytes.now
+        ≡ read certs (points_layout f.points 0 (numbers_layout (3 * f.start.k))) f.at (entries_of_front f)
         f.rest.now) }
     ensures fault { IfErr result (λ e.
-        read (behind_threshold start.k) PARENT_AT (entries_of_start start) bytes.now ≡ Err e) }
+        read certs (behind_threshold start.k) PARENT_AT (entries_of_start start) bytes.now ≡ Err e) }
     ensures box_low { IfOk result (λ f. 1 ≤ length f.boxed.now) }
     ensures box_high { IfOk result (λ f. length f.boxed.now ≤ MAX_VALUE) }
     ensures place { IfOk result (λ f. f.at ≤ 200) }

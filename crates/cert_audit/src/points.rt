@@ -1,11 +1,12 @@
 // Reading the points and the numbers of a certificate.
 ghost use Rattle.std.specs.Prelude.{◌≡◌, ℕ, suc, ◌+◌, ◌*◌, ◌≤◌, ◌<◌, ◌^◌, List, [], ◌++◌, length, slice_index, drop, vec_capacity, IfOk, IfErr, Ok, Err, All};
-ghost use Rattle.report_frame.specs.Format.{Entry};
+ghost use Rattle.byte_format.specs.Format.{Format, Entry};
 ghost use Rattle.shamir_limbs.specs.declared.share.Point.{Point};
-ghost use Rattle.cert_audit.specs.Layout.{Layout};
 ghost use Rattle.cert_audit.specs.Certificate.{points_layout, numbers_layout, entries_of_point, point_entries, number_entries};
 ghost use Rattle.cert_audit.specs.Points.{point_of};
-ghost use Rattle.cert_audit.specs.Reading.{read};
+ghost use Rattle.byte_format.specs.Reading.{read};
+ghost use Rattle.cert_audit.specs.Reading.{certs};
+ghost use Rattle.cert_audit.specs.declared.kind.CertKind.{CertKind};
 
 use crate::fault::CertFault;
 use crate::fields::read_element;
@@ -23,11 +24,11 @@ pub(crate) fn read_points(
     requires empty { points.items ≡ [] }
     requires room { n ≤ vec_capacity points }
     requires place { at < 2 ^ 32 }
-    ensures ok { IfOk result (λ made. (next : Layout) (before : List Entry) →
-        read (points_layout n 0 next) at before bytes.now
-        ≡ read next (at + 32 * n) (before ++ point_entries made.items) (drop (32 * n) bytes.now)) }
-    ensures fault { IfErr result (λ e. (next : Layout) (before : List Entry) →
-        read (points_layout n 0 next) at before bytes.now ≡ Err e) }
+    ensures ok { IfOk result (λ made. (next : Format CertKind) (before : List Entry) →
+        read certs (points_layout n 0 next) at before bytes.now
+        ≡ read certs next (at + 32 * n) (before ++ point_entries made.items) (drop (32 * n) bytes.now)) }
+    ensures fault { IfErr result (λ e. (next : Format CertKind) (before : List Entry) →
+        read certs (points_layout n 0 next) at before bytes.now ≡ Err e) }
     ensures many { IfOk result (λ made. length made.items ≡ n) }
     ensures three { IfOk result (λ made. All (λ p. length p.y ≡ 3) made.items) }
     ensures long { IfOk result (λ _. 32 * n ≤ length bytes.now) }
@@ -48,12 +49,12 @@ pub(crate) fn read_points(
 fn read_four(bytes: &[u8], at: u64, above: u64) -> Result<([u64; 4], &[u8]), CertFault>
     requires above { above < MODULUS }
     requires place { at < 2 ^ 60 }
-    ensures ok { IfOk result (λ x. (n : ℕ) (next : Layout) (before : List Entry) →
-        read (points_layout (suc n) above next) at before bytes.now
-        ≡ read (points_layout n (point_of x.0).x next) (at + 32) (before
+    ensures ok { IfOk result (λ x. (n : ℕ) (next : Format CertKind) (before : List Entry) →
+        read certs (points_layout (suc n) above next) at before bytes.now
+        ≡ read certs (points_layout n (point_of x.0).x next) (at + 32) (before
         ++ entries_of_point (point_of x.0)) x.1.now) }
-    ensures fault { IfErr result (λ e. (n : ℕ) (next : Layout) (before : List Entry) →
-        read (points_layout (suc n) above next) at before bytes.now ≡ Err e) }
+    ensures fault { IfErr result (λ e. (n : ℕ) (next : Format CertKind) (before : List Entry) →
+        read certs (points_layout (suc n) above next) at before bytes.now ≡ Err e) }
     ensures below { IfOk result (λ x. (i : ℕ) → slice_index x.0 i < MODULUS) }
     ensures long { IfOk result (λ _. 32 ≤ length bytes.now) }
     ensures rest { IfOk result (λ x. x.1.now ≡ drop 32 bytes.now) }
@@ -89,10 +90,10 @@ pub(crate) fn read_numbers(
     requires room { n ≤ vec_capacity numbers }
     requires place { at < 2 ^ 40 }
     ensures ok { IfOk result (λ made. (before : List Entry) →
-        read (numbers_layout n) at before bytes.now
+        read certs (numbers_layout n) at before bytes.now
         ≡ Ok (before ++ number_entries made.items, at + 8 * n)) }
     ensures fault { IfErr result (λ e. (before : List Entry) →
-        read (numbers_layout n) at before bytes.now ≡ Err e) }
+        read certs (numbers_layout n) at before bytes.now ≡ Err e) }
 {
     let mut rest = bytes;
     for i in 0..n {

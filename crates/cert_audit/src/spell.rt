@@ -2,7 +2,7 @@
 ghost use Rattle.std.specs.Prelude.{◌≡◌, ◌++◌, ◌+◌, ◌*◌, length, IfOk, OnOk, Ok};
 ghost use Rattle.std.specs.Int.{w8, w64, to_be_bytes};
 ghost use Rattle.cert_audit.specs.Certificate.{IsCert, cert_spelling, certificate, behind_threshold, start_entries, head_entries, front_entries, bytes_of_point, point_bytes, number_bytes};
-ghost use Rattle.cert_audit.specs.Layout.{spelling};
+ghost use Rattle.byte_format.specs.Format.{spelling};
 ghost use Rattle.cert_audit.specs.Reading.{reading};
 
 use crate::cert::Cert;

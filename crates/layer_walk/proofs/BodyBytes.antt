@@ -9,7 +9,7 @@ use Rattle.star_io.specs.Bytes.{AreBytes}
 use Rattle.star_io.proofs.ByteLists.{AreBytes-nil, AreBytes-get_or, AreBytes-drop, AreBytes-append_left, AreBytes-append_right}
 use Rattle.chacha_stream.specs.Keystream.{keystream, keystream_byte, keystream_word, xor_bytes}
 use Rattle.report_frame.specs.declared.limits.TheConstants.{FRONT_BYTES, TAG_BYTES, CHECK_BYTES}
-use Rattle.report_frame.specs.Format.{spelling}
+use Rattle.byte_format.specs.Format.{spelling}
 use Rattle.report_frame.specs.Frame.{Fields, IsFrame, entries, frame}
 use Rattle.layer_walk.specs.Members.{plain_body}
 

@@ -2,8 +2,8 @@
 use Rattle.std.specs.Prelude.{ℕ, ◌+◌, ◌-◌, List, [], ◌∷◌, ◌++◌, length, slice_range}
 use Rattle.std.specs.List.{sum_by}
 use Rattle.report_frame.specs.declared.limits.TheConstants.{FIXED_BYTES, FRONT_BYTES, NONCE_BYTES, SEAL_BYTES}
-use Rattle.report_frame.specs.Format.{spelling}
-use Rattle.report_frame.specs.Format.Entry.{Number, Bytes}
+use Rattle.byte_format.specs.Format.{spelling}
+use Rattle.byte_format.specs.Format.Entry.{Number, Bytes}
 use Rattle.report_frame.specs.Frame.{Fields, frame, front_entries}
 
 -- the bytes of a frame before its body

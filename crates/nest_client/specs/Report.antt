@@ -6,7 +6,7 @@ use Rattle.chacha_stream.specs.Keystream.{keystream}
 use Rattle.hmac_seal.specs.Hmac.{hmac_sha256}
 use Rattle.field61.specs.Field.{field_sum}
 use Rattle.report_frame.specs.declared.version.Version.{Version}
-use Rattle.report_frame.specs.Format.{spelling}
+use Rattle.byte_format.specs.Format.{spelling}
 use Rattle.report_frame.specs.Frame.{Fields, frame, entries, sealed_part}
 use Rattle.shamir_limbs.specs.Coefficients.{values}
 use Rattle.adss_commit.specs.declared.context.Context.{Context}

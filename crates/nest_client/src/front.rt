@@ -1,6 +1,6 @@
 // What is before the body in a frame, and how it is encoded without allocating memory.
 ghost use Rattle.std.specs.Prelude.{◌≡◌, ◌≤◌, ◌<◌, ◌+◌, ◌++◌, ◌^◌, length};
-ghost use Rattle.report_frame.specs.Format.{spelling};
+ghost use Rattle.byte_format.specs.Format.{spelling};
 ghost use Rattle.report_frame.specs.Frame.{frame, front_entries};
 ghost use Rattle.report_frame.specs.declared.limits.TheConstants.{FRONT_BYTES, NONCE_BYTES};
 ghost use Rattle.nest_client.specs.Place.{before_body, body_start};

@@ -1,19 +1,21 @@
 -- The laws of frames, for the layers above.
-use Rattle.std.proofs.Common.{◌≡◌, ℕ, ◌+◌, ◌-◌, ◌≤◌, ◌^◌, List, [], ◌∷◌, ◌++◌, length, take, Ok, Err, refl, sym, ap, subst, ◌∙◌, rules, arith, inl, inr, length-append}
+use Rattle.std.proofs.Common.{◌≡◌, ℕ, ◌+◌, ◌-◌, ◌≤◌, ◌^◌, List, [], ◌∷◌, ◌++◌, length, take, Some, Ok, Err, refl, sym, ap, subst, ◌∙◌, rules, arith, inl, inr, length-append}
 use Rattle.std.specs.Prelude.{◌⊎◌, ◌↔◌}
-use Rattle.std.proofs.lemmas.List.{take_at}
+use Rattle.std.proofs.lemmas.List.{take_at, append-nil}
 use Rattle.star_io.specs.Bytes.{AreBytes}
 use Rattle.field61.specs.declared.TheConstants.{MODULUS}
 use Rattle.report_frame.specs.declared.limits.TheConstants.{SEAL_BYTES, FIXED_BYTES}
 use Rattle.report_frame.specs.declared.fault.Fault.{Fault}
 use Rattle.report_frame.specs.declared.version.Version.{Version}
 use Rattle.report_frame.specs.Versions.{version_number, version_of, max_level, max_threshold, max_frame}
-use Rattle.report_frame.specs.Format.{After, IsEnd, spelling}
+use Rattle.byte_format.specs.Format.{After, IsEnd, spelling}
 use Rattle.report_frame.specs.Frame.{Fields, IsFrame, FaultAt, entries, frame, sealed_part, sealed_entries}
-use Rattle.report_frame.specs.Reading.{read, decoded}
+use Rattle.byte_format.specs.Reading.{read}
+use Rattle.byte_format.proofs.Spelt.{read-whole, read-trailing, spelling-last}
+use Rattle.report_frame.specs.declared.fault.FaultKind.TheVariants.{Trailing}
+use Rattle.report_frame.specs.Reading.{frames, decoded}
 use Rattle.report_frame.specs.Laws.{InRange, IsOneFrame, HasOneFault}
 use Rattle.report_frame.proofs.VersionFacts.{version_of_number, number_low, number_high, frame_within}
-use Rattle.report_frame.proofs.Walk.{read-whole, read-trailing, spelling-last}
 use Rattle.report_frame.proofs.Frames.{frame_is_sound, decoded-frame, decoded-fault, decodes_to, ToReport, ToFault}
 
 -- ---- decoding
@@ -77,14 +79,18 @@ frame_or_fault bytes are_bytes = elim (decodes_to bytes are_bytes) [
 pub no_prefix : (r q : Fields) (bytes more : List ℕ) → IsFrame r bytes → IsFrame q (bytes ++ more) → more ≡ []
 no_prefix r q bytes [] of_r of_q = refl
 no_prefix r q bytes (b ∷ more) of_r of_q =
-    let goes_wrong = ap (λ (l : List ℕ). read frame 0 (l ++ b ∷ more)) of_r.spelt ∙ read-trailing frame 0 (entries r) b more frame_is_sound of_r.range in
-    let goes_well = ap (read frame 0) of_q.spelt ∙ read-whole frame 0 (entries q) frame_is_sound of_q.range in
+    let goes_wrong =
+    ap (λ (l : List ℕ). read frames frame 0 [] (l ++ b ∷ more)) of_r.spelt
+    ∙ read-trailing frames frame 0 (entries r) Trailing b more frame_is_sound of_r.range in
+    let goes_well =
+    ap (read frames frame 0 []) (of_q.spelt ∙ sym (append-nil (spelling frame (entries q))))
+    ∙ read-whole frames frame 0 (entries q) (Some Trailing) [] frame_is_sound of_q.range refl in
     absurd cc
 
 -- ---- what is known of a frame
 
 -- each field is in its range
-pub range_of_entries : (r : Fields) → After frame (entries r) IsEnd → InRange r
+pub range_of_entries : (r : Fields) → After frame (entries r) (IsEnd (Some Trailing)) → InRange r
 range_of_entries r range =
     let version = version_of_number r.version in
     let level = range.2.2 in
@@ -147,7 +153,7 @@ has_frame r range few =
 
 -- a frame is its sealed part and its seal
 pub sealed_then_seal : (r : Fields) (bytes : List ℕ) → IsFrame r bytes → bytes ≡ sealed_part r ++ r.seal
-sealed_then_seal r bytes of_r = of_r.spelt ∙ spelling-last frame (sealed_entries r) r.seal IsEnd of_r.range
+sealed_then_seal r bytes of_r = of_r.spelt ∙ spelling-last frame (sealed_entries r) r.seal (IsEnd (Some Trailing)) of_r.range
 
 -- so both are its frame
 pub has_sealed_frame : (r : Fields) → InRange r → FIXED_BYTES + length r.boxed + length r.body ≤ max_frame r.version → IsFrame r (sealed_part r ++ r.seal)

@@ -1,85 +1,71 @@
 -- The frame as a format: what its entries are, and what bytes decode to.
-use Rattle.std.proofs.Common.{◌≡◌, ℕ, ◌+◌, ◌≤◌, List, [], ◌∷◌, length, Option, Some, None, Result, Ok, Err, refl, sym, ap, subst, ◌∙◌, rules, arith, inl, inr}
+use Rattle.std.proofs.Common.{◌≡◌, ℕ, ◌+◌, List, [], ◌∷◌, ◌++◌, length, Option, Some, None, Result, Ok, Err, refl, sym, ap, ap₂, subst, ◌∙◌, rules, arith, inl, inr}
 use Rattle.std.proofs.Math.Nat.{le_antisymm}
+use Rattle.std.proofs.lemmas.List.{append-nil}
 use Rattle.star_io.specs.Bytes.{AreBytes}
-use Rattle.report_frame.specs.declared.limits.TheConstants.{MAGIC}
 use Rattle.report_frame.specs.declared.fault.FaultKind.{FaultKind}
-use Rattle.report_frame.specs.declared.fault.FaultKind.TheVariants.{TooLong}
+use Rattle.report_frame.specs.declared.fault.FaultKind.TheVariants.{TooLong, Trailing}
 use Rattle.report_frame.specs.declared.fault.Fault.{Fault}
 use Rattle.report_frame.specs.declared.version.Version.{Version}
 use Rattle.report_frame.specs.Versions.{version_of}
-use Rattle.report_frame.specs.Format.{Size, Format, Entry, After, IsEnd, spelling}
-use Rattle.report_frame.specs.Format.Format.{End, NumberField, BytesField}
-use Rattle.report_frame.specs.Format.Entry.{Number, Bytes}
+use Rattle.byte_format.specs.Format.{Entry, After, IsEnd, MayFollow, spelling}
+use Rattle.byte_format.specs.Format.Entry.{Number, Bytes}
 use Rattle.report_frame.specs.Frame.{Fields, IsFrame, FaultAt, entries, back, frame}
-use Rattle.report_frame.specs.Reading.{◌>>=◌, read, fields_from, passed_limit, decoded_under, decoded}
+use Rattle.byte_format.specs.Reading.{◌>>=◌, read}
+use Rattle.byte_format.proofs.FirstEntry.{number_first, bytes_first, nothing_first}
+use Rattle.byte_format.proofs.Found.{found, Whole, Wrong}
+use Rattle.byte_format.proofs.Spelt.{IsSound, read-whole, read-wrong}
+use Rattle.report_frame.specs.Reading.{frames, fields_from, passed_limit, decoded_under, decoded}
 use Rattle.report_frame.proofs.VersionFacts.{version_of_number, number_of_version, level_fits, threshold_fits}
 use Rattle.report_frame.proofs.Lengths.{Passes, Keeps, limit_step, passes, keeps, short_enough, frame_is_short}
-use Rattle.report_frame.proofs.Walk.{IsSound, found, Whole, Wrong, read-whole, read-wrong}
 
 pub frame_is_sound : IsSound frame
 frame_is_sound = search (rules, arith, level_fits, threshold_fits)
 
 -- ---- the entries
 
--- where a number is due, one in its range stands first
-number_first : (G : Type 0) (size : Size) (fault : FaultKind) (low high : ℕ) (next : ℕ → Format) (es : List Entry) → After (NumberField size fault low high next) es IsEnd →
-    ((n : ℕ) (others : List Entry) → es ≡ Number n ∷ others → low ≤ n → n ≤ high → After (next n) others IsEnd → G) → G
-number_first G size fault low high next [] after then = absurd after
-number_first G size fault low high next (Number n ∷ es) after then = then n es refl after.0 after.1 after.2
-number_first G size fault low high next (Bytes b ∷ es) after then = absurd after
-
--- where bytes are due, as many stand first
-bytes_first : (G : Type 0) (len : ℕ) (next : Format) (es : List Entry) → After (BytesField len next) es IsEnd →
-    ((b : List ℕ) (others : List Entry) → es ≡ Bytes b ∷ others → length b ≡ len → After next others IsEnd → G) → G
-bytes_first G len next [] after then = absurd after
-bytes_first G len next (Number n ∷ es) after then = absurd after
-bytes_first G len next (Bytes b ∷ es) after then = then b es refl after.0 after.1
-
--- where no field follows, nothing stands
-nothing_first : (es : List Entry) → After End es IsEnd → es ≡ []
-nothing_first [] after = refl
-nothing_first (e ∷ es) after = absurd after
-
 -- what a report puts into the fields from the length of the box on
-record HasBack (es : List Entry) : Type 0 where
+record HasBack (end : Option FaultKind) (es : List Entry) : Type 0 where
   boxed : List ℕ
   nonce : List ℕ
   body : List ℕ
   seal : List ℕ
   is : es ≡ Number (length boxed) ∷ Bytes boxed ∷ Bytes nonce ∷ Number (length body) ∷ Bytes body ∷ Bytes seal ∷ []
+  ends : end ≡ Some Trailing
 
-back_entries : (es : List Entry) → After back es IsEnd → HasBack es
-back_entries es whole =
-    number_first (HasBack es) _ _ _ _ _ es whole (λ box_length es1 box_length_is _ _ whole1.
-    bytes_first (HasBack es) _ _ es1 whole1 (λ boxed es2 boxed_is length_of_box whole2.
-    bytes_first (HasBack es) _ _ es2 whole2 (λ nonce es3 nonce_is _ whole3.
-    number_first (HasBack es) _ _ _ _ _ es3 whole3 (λ body_length es4 body_length_is _ _ whole4.
-    bytes_first (HasBack es) _ _ es4 whole4 (λ body es5 body_is length_of_body whole5.
-    bytes_first (HasBack es) _ _ es5 whole5 (λ seal es6 seal_is _ whole6.
-    let nothing = nothing_first es6 whole6 in
-    record { boxed = boxed; nonce = nonce; body = body; seal = seal; is = cc }))))))
+back_entries : (end : Option FaultKind) (es : List Entry) → After back es (IsEnd end) → HasBack end es
+back_entries end es whole =
+    number_first end (HasBack end es) _ _ _ _ _ es whole (λ box_length es1 box_length_is _ _ whole1.
+    bytes_first end (HasBack end es) _ _ es1 whole1 (λ boxed es2 boxed_is length_of_box whole2.
+    bytes_first end (HasBack end es) _ _ es2 whole2 (λ nonce es3 nonce_is _ whole3.
+    number_first end (HasBack end es) _ _ _ _ _ es3 whole3 (λ body_length es4 body_length_is _ _ whole4.
+    bytes_first end (HasBack end es) _ _ es4 whole4 (λ body es5 body_is length_of_body whole5.
+    bytes_first end (HasBack end es) _ _ es5 whole5 (λ seal es6 seal_is _ whole6.
+    let nothing = nothing_first end (Some Trailing) es6 whole6 in
+    let none = nothing.0 in
+    record { boxed = boxed; nonce = nonce; body = body; seal = seal; is = cc; ends = sym nothing.1 }))))))
 
 -- a report has these entries
-record HasReport (es : List Entry) : Type 0 where
+record HasReport (end : Option FaultKind) (es : List Entry) : Type 0 where
   report : Fields
   is : es ≡ entries report
+  ends : end ≡ Some Trailing
 
 -- entries in all fields are those of a report
-whole_entries : (es : List Entry) → After frame es IsEnd → HasReport es
-whole_entries es whole =
-    number_first (HasReport es) _ _ _ _ _ es whole (λ magic es1 magic_is magic_low magic_high whole1.
-    number_first (HasReport es) _ _ _ _ _ es1 whole1 (λ number es2 number_is number_low number_high whole2.
-    number_first (HasReport es) _ _ _ _ _ es2 whole2 (λ level es3 level_is _ _ whole3.
-    number_first (HasReport es) _ _ _ _ _ es3 whole3 (λ epoch es4 epoch_is _ _ whole4.
-    number_first (HasReport es) _ _ _ _ _ es4 whole4 (λ k es5 k_is _ _ whole5.
-    number_first (HasReport es) _ _ _ _ _ es5 whole5 (λ x es6 x_is _ _ whole6.
-    number_first (HasReport es) _ _ _ _ _ es6 whole6 (λ y0 es7 y0_is _ _ whole7.
-    number_first (HasReport es) _ _ _ _ _ es7 whole7 (λ y1 es8 y1_is _ _ whole8.
-    number_first (HasReport es) _ _ _ _ _ es8 whole8 (λ y2 es9 y2_is _ _ whole9.
-    bytes_first (HasReport es) _ _ es9 whole9 (λ tag es10 tag_is _ whole10.
-    bytes_first (HasReport es) _ _ es10 whole10 (λ check es11 check_is _ whole11.
-    let rest = back_entries es11 whole11 in
+whole_entries : (end : Option FaultKind) (es : List Entry) → After frame es (IsEnd end) → HasReport end es
+whole_entries end es whole =
+    number_first end (HasReport end es) _ _ _ _ _ es whole (λ magic es1 magic_is magic_low magic_high whole1.
+    number_first end (HasReport end es) _ _ _ _ _ es1 whole1 (λ number es2 number_is number_low number_high whole2.
+    number_first end (HasReport end es) _ _ _ _ _ es2 whole2 (λ level es3 level_is _ _ whole3.
+    number_first end (HasReport end es) _ _ _ _ _ es3 whole3 (λ epoch es4 epoch_is _ _ whole4.
+    number_first end (HasReport end es) _ _ _ _ _ es4 whole4 (λ k es5 k_is _ _ whole5.
+    number_first end (HasReport end es) _ _ _ _ _ es5 whole5 (λ x es6 x_is _ _ whole6.
+    number_first end (HasReport end es) _ _ _ _ _ es6 whole6 (λ y0 es7 y0_is _ _ whole7.
+    number_first end (HasReport end es) _ _ _ _ _ es7 whole7 (λ y1 es8 y1_is _ _ whole8.
+    number_first end (HasReport end es) _ _ _ _ _ es8 whole8 (λ y2 es9 y2_is _ _ whole9.
+    bytes_first end (HasReport end es) _ _ es9 whole9 (λ tag es10 tag_is _ whole10.
+    bytes_first end (HasReport end es) _ _ es10 whole10 (λ check es11 check_is _ whole11.
+    let rest = back_entries end es11 whole11 in
     let is_magic = le_antisymm magic_high magic_low in
     let is_number = number_of_version number number_low number_high in
     let report : Fields = record {
@@ -98,7 +84,7 @@ whole_entries es whole =
       body = rest.body;
       seal = rest.seal;
     } in
-    record { report = report; is = cc })))))))))))
+    record { report = report; is = cc; ends = rest.ends })))))))))))
 
 -- ---- decoding
 
@@ -106,7 +92,7 @@ pub decoded-long : (bytes : List ℕ) (limit : ℕ) → passed_limit bytes ≡ S
 unfolding decoded
 decoded-long bytes limit is = ap (λ (l : Option ℕ). decoded_under l bytes) is
 
-pub decoded-short : (bytes : List ℕ) → passed_limit bytes ≡ None → decoded bytes ≡ (read frame 0 bytes >>= λ es. Ok (fields_from es))
+pub decoded-short : (bytes : List ℕ) → passed_limit bytes ≡ None → decoded bytes ≡ (read frames frame 0 [] bytes >>= λ es. Ok (fields_from es))
 unfolding decoded
 decoded-short bytes is = ap (λ (l : Option ℕ). decoded_under l bytes) is
 
@@ -117,7 +103,9 @@ fields-entries r = ap (λ (v : Version). record r { version = v }) (version_of_n
 -- a frame decodes to its report
 pub decoded-frame : (r : Fields) (bytes : List ℕ) → IsFrame r bytes → decoded bytes ≡ Ok r
 decoded-frame r bytes frame_of_r =
-    let entries_read : read frame 0 bytes ≡ Ok (entries r) = ap (read frame 0) frame_of_r.spelt ∙ read-whole frame 0 (entries r) frame_is_sound frame_of_r.range in
+    let entries_read : read frames frame 0 [] bytes ≡ Ok (entries r) =
+    ap (read frames frame 0 []) (frame_of_r.spelt ∙ sym (append-nil (spelling frame (entries r))))
+    ∙ read-whole frames frame 0 (entries r) (Some Trailing) [] frame_is_sound frame_of_r.range refl in
     decoded-short bytes (keeps bytes (frame_is_short r bytes frame_of_r))
     ∙ ap (λ (es : Result (List Entry) Fault). es >>= λ l. Ok (fields_from l)) entries_read
     ∙ ap (λ (f : Fields). Ok f) (fields-entries r)
@@ -131,8 +119,8 @@ pub decoded-fault : (bytes : List ℕ) (kind : FaultKind) (at : ℕ) → FaultAt
 decoded-fault bytes kind at fault = elim fault [
   | inl long ↦ decoded-long bytes at (passes bytes at long.1) ∙ ap (λ (k : FaultKind). Err (record { kind = k; at = at })) (sym long.0)
   | inr wrong ↦
-      let fault_read : read frame 0 bytes ≡ Err (record { kind = kind; at = 0 + length (spelling frame wrong.1.0) }) =
-      ap (read frame 0) wrong.1.2 ∙ read-wrong frame 0 wrong.1.0 wrong.1.1 kind frame_is_sound wrong.1.4 in
+      let fault_read : read frames frame 0 [] bytes ≡ Err (record { kind = kind; at = 0 + length (spelling frame wrong.1.0) }) =
+      ap (read frames frame 0 []) wrong.1.2 ∙ read-wrong frames frame 0 wrong.1.0 wrong.1.1 kind frame_is_sound wrong.1.4 in
       decoded-short bytes (keeps bytes wrong.0) ∙ ap (λ (es : Result (List Entry) Fault). es >>= λ l. Ok (fields_from l)) fault_read
       ∙ ap (λ (p : ℕ). Err (record { kind = kind; at = p })) (from_front _ ∙ sym wrong.1.3)
 ]
@@ -145,12 +133,15 @@ pub data DecodesTo (bytes : List ℕ) : Type 0 where
 pub decodes_to : (bytes : List ℕ) → AreBytes bytes → DecodesTo bytes
 decodes_to bytes are_bytes = elim (limit_step bytes) [
   | Passes limit long is ↦ ToFault (record { kind = TooLong; at = limit }) (inl (refl, long)) (decoded-long bytes limit is)
-  | Keeps short is ↦ elim (found frame 0 bytes are_bytes) [
-    | Whole es after parts is ↦
-        let whole = whole_entries es after in
-        let spelt = parts ∙ ap (spelling frame) whole.is in
+  | Keeps short is ↦ elim (found frames frame 0 [] bytes are_bytes) [
+    | Whole es rest end place after may parts place_is is ↦
+        let whole = whole_entries end es after in
+        let nothing : rest ≡ [] = subst (λ (e : Option FaultKind). MayFollow e rest) whole.ends may in
+        let spelt : bytes ≡ spelling frame (entries whole.report) =
+        parts ∙ ap₂ (λ (l : List Entry) (r : List ℕ). spelling frame l ++ r) whole.is nothing ∙ append-nil (spelling frame (entries whole.report)) in
         let frame_of_report : IsFrame whole.report bytes = record {
-          range = subst (λ (l : List Entry). After frame l IsEnd) whole.is after;
+          range = subst (λ (e : Option FaultKind). After frame (entries whole.report) (IsEnd e)) whole.ends
+              (subst (λ (l : List Entry). After frame l (IsEnd end)) whole.is after);
           spelt = spelt;
           short = short_enough whole.report bytes spelt short;
         } in

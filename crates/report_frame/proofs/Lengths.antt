@@ -8,8 +8,8 @@ use Rattle.report_frame.specs.declared.limits.TheConstants.{MAGIC, MAX_FRAME_ONE
 use Rattle.report_frame.specs.declared.version.Version.{Version}
 use Rattle.report_frame.specs.declared.version.Version.TheVariants.{One, Two}
 use Rattle.report_frame.specs.Versions.{version_number, max_frame}
-use Rattle.report_frame.specs.Format.{spelling}
-use Rattle.report_frame.specs.Format.Entry.{Number}
+use Rattle.byte_format.specs.Format.{spelling}
+use Rattle.byte_format.specs.Format.Entry.{Number}
 use Rattle.report_frame.specs.Frame.{Fields, IsFrame, BeginsAsOne, IsTooLong, entries, frame}
 use Rattle.report_frame.specs.Reading.{begins_as_one, passed_limit}
 use Rattle.report_frame.proofs.VersionFacts.{frame_within}

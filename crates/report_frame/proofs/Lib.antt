@@ -1,7 +1,5 @@
-pub mod Sizes
 pub mod VersionFacts
 mod Lengths
-mod Walk
 pub mod Frames
 pub mod FrameLaws
 mod Views

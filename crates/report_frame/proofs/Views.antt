@@ -1,5 +1,5 @@
 -- The parts of a frame, and what follows for a call that answers what its bytes decode to.
-use Rattle.std.proofs.Common.{◌≡◌, ℕ, ◌-◌, ◌<◌, ◌^◌, List, length, take, None, Result, Ok, Err, refl, ap, ◌∙◌, arith, inl, inr, length-append}
+use Rattle.std.proofs.Common.{◌≡◌, ℕ, ◌-◌, ◌<◌, ◌^◌, List, [], length, take, None, Result, Ok, Err, refl, ap, ◌∙◌, arith, inl, inr, length-append}
 use Rattle.std.specs.Prelude.{IsOkAnd, IfErr, IsErrOf}
 use Rattle.std.proofs.lemmas.Bool.{cases_lt}
 use Rattle.star_io.specs.Bytes.{AreBytes}
@@ -8,9 +8,10 @@ use Rattle.report_frame.specs.declared.fault.FaultKind.{FaultKind}
 use Rattle.report_frame.specs.declared.fault.Fault.{Fault}
 use Rattle.report_frame.specs.declared.parts.Parts.{Parts}
 use Rattle.report_frame.specs.declared.view.FrameView.{FrameView}
-use Rattle.report_frame.specs.Format.{Entry, spelling}
+use Rattle.byte_format.specs.Format.{Entry, spelling}
 use Rattle.report_frame.specs.Frame.{Fields, IsFrame, FaultAt, entries, frame}
-use Rattle.report_frame.specs.Reading.{◌>>=◌, Gives, read, passed_limit, decoded, fields_from}
+use Rattle.byte_format.specs.Reading.{◌>>=◌, Gives, read}
+use Rattle.report_frame.specs.Reading.{frames, passed_limit, decoded, fields_from}
 use Rattle.report_frame.specs.Parts.{fields_of_parts, ViewsFrame}
 use Rattle.report_frame.specs.View.{fields_of}
 use Rattle.report_frame.proofs.Frames.{decoded-short, fields-entries, decoded-frame, decoded-fault}
@@ -19,7 +20,7 @@ use Rattle.report_frame.proofs.FrameLaws.{decoded_frame, decoded_fault, sealed_p
 -- ---- the parts that were read
 
 -- the bytes are the frame of their fields
-pub frame_of_parts : (bytes : List ℕ) (p : Parts) → AreBytes bytes → passed_limit bytes ≡ None → read frame 0 bytes ≡ Ok (entries (fields_of_parts p)) → IsFrame (fields_of_parts p) bytes
+pub frame_of_parts : (bytes : List ℕ) (p : Parts) → AreBytes bytes → passed_limit bytes ≡ None → read frames frame 0 [] bytes ≡ Ok (entries (fields_of_parts p)) → IsFrame (fields_of_parts p) bytes
 frame_of_parts bytes p are_bytes short is =
     (decoded_frame bytes (fields_of_parts p) are_bytes).0
     (decoded-short bytes short ∙ ap (λ (es : Result (List Entry) Fault). es >>= λ l. Ok (fields_from l)) is ∙ ap (λ (f : Fields). Ok f) (fields-entries (fields_of_parts p)))

@@ -1,16 +1,16 @@
 -- The frame of a report, its one spelling, and the one fault of bytes that are no frame (docs/FORMATS.md).
-use Rattle.std.specs.Prelude.{◌≡◌, ◌⊎◌, ℕ, ◌-◌, ◌^◌, ◌<◌, ◌≤◌, List, [], ◌∷◌, ◌++◌, length, take}
+use Rattle.std.specs.Prelude.{◌≡◌, ◌⊎◌, ℕ, ◌-◌, ◌^◌, ◌<◌, ◌≤◌, List, [], ◌∷◌, ◌++◌, length, take, Some}
 use Rattle.field61.specs.declared.TheConstants.{MODULUS}
 use Rattle.report_frame.specs.declared.limits.TheConstants.{MAGIC, MIN_THRESHOLD, TAG_BYTES, CHECK_BYTES, MAX_VALUE, NONCE_BYTES, SEAL_BYTES, MAX_FRAME_ONE, MAX_FRAME_TWO}
 use Rattle.report_frame.specs.declared.fault.FaultKind.{FaultKind}
-use Rattle.report_frame.specs.declared.fault.FaultKind.TheVariants.{TooLong, Truncated, Magic, Version as VersionFault, Level, Threshold, Point, Share, BoxLength, BodyLength}
+use Rattle.report_frame.specs.declared.fault.FaultKind.TheVariants.{TooLong, Truncated, Magic, Version as VersionFault, Level, Threshold, Point, Share, BoxLength, BodyLength, Trailing}
 use Rattle.report_frame.specs.declared.version.Version.{Version}
 use Rattle.report_frame.specs.declared.version.Version.TheVariants.{One, Two}
 use Rattle.report_frame.specs.Versions.{version_number, version_of, max_level, max_threshold, max_frame}
-use Rattle.report_frame.specs.Format.{Format, Entry, After, IsEnd, IsWrong, spelling}
-use Rattle.report_frame.specs.Format.Size.{OneByte, TwoBytes, FourBytes, EightBytes}
-use Rattle.report_frame.specs.Format.Format.{End, NumberField, BytesField}
-use Rattle.report_frame.specs.Format.Entry.{Number, Bytes}
+use Rattle.byte_format.specs.Format.{Format, Entry, After, IsEnd, IsWrong, spelling}
+use Rattle.byte_format.specs.Format.Size.{OneByte, TwoBytes, FourBytes, EightBytes}
+use Rattle.byte_format.specs.Format.Format.{End, NumberField, BytesField}
+use Rattle.byte_format.specs.Format.Entry.{Number, Bytes}
 
 -- the fields of a report
 pub record Fields : Type 0 where
@@ -30,18 +30,18 @@ pub record Fields : Type 0 where
   pub seal : List ℕ
 
 -- The layout of a frame. The fields from the length of the box on:
-abbrev pub back : Format
+abbrev pub back : Format FaultKind
 back =
     NumberField OneByte BoxLength 1 MAX_VALUE (λ box_length.
     BytesField box_length (
     BytesField NONCE_BYTES (
     NumberField TwoBytes BodyLength 1 (2 ^ 16 - 1) (λ body_length.
     BytesField body_length (
-    BytesField SEAL_BYTES End)))))
+    BytesField SEAL_BYTES (End (Some Trailing)))))))
 
 -- The fields behind the version, which gives the ranges of level and threshold. The epoch may be any number of four
 -- bytes, so its fault never comes.
-abbrev pub behind_version : Version → Format
+abbrev pub behind_version : Version → Format FaultKind
 behind_version version =
     NumberField OneByte Level 0 (max_level version) (λ _.
     NumberField FourBytes Truncated 0 (2 ^ 32 - 1) (λ _.
@@ -54,7 +54,7 @@ behind_version version =
     BytesField CHECK_BYTES back))))))))
 
 -- And all of them.
-abbrev pub frame : Format
+abbrev pub frame : Format FaultKind
 frame =
     NumberField TwoBytes Magic MAGIC MAGIC (λ _.
     NumberField OneByte VersionFault (version_number One) (version_number Two) (λ number.
@@ -84,7 +84,7 @@ sealed_part r = spelling frame (sealed_entries r)
 
 -- The bytes are the frame of this report.
 pub record IsFrame (r : Fields) (bytes : List ℕ) : Type 0 where
-  pub range : After frame (entries r) IsEnd
+  pub range : After frame (entries r) (IsEnd (Some Trailing))
   pub spelt : bytes ≡ spelling frame (entries r)
   pub short : length bytes ≤ max_frame r.version
 
@@ -105,4 +105,4 @@ FaultAt bytes kind at =
     ((kind ≡ TooLong) × IsTooLong bytes at)
     ⊎ (((limit : ℕ) → IsTooLong bytes limit → ⊥)
     × ((first : List Entry) × (rest : List ℕ) × (bytes ≡ spelling frame first ++ rest)
-    × (at ≡ length (spelling frame first)) × After frame first (IsWrong rest kind)))
+    × (at ≡ length (spelling frame first)) × After frame first (IsWrong Truncated rest kind)))

@@ -1,5 +1,4 @@
 pub mod Versions
-pub mod Format
 pub mod Misread
 pub mod Frame
 pub mod Reading

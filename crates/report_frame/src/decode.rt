@@ -2,7 +2,8 @@
 ghost use Rattle.std.specs.Prelude.{◌≡◌, ℕ, IfOk, IsOkAnd, IfErr, IsErrOf};
 ghost use Rattle.report_frame.specs.declared.fault.FaultKind.{FaultKind};
 ghost use Rattle.report_frame.specs.Frame.{Fields, IsFrame, FaultAt};
-ghost use Rattle.report_frame.specs.Reading.{Gives, decoded, passed_limit};
+ghost use Rattle.byte_format.specs.Reading.{Gives};
+ghost use Rattle.report_frame.specs.Reading.{decoded, passed_limit};
 ghost use Rattle.report_frame.specs.View.{fields_of};
 
 use crate::fault::{Fault, FaultKind};

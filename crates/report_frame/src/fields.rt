@@ -1,8 +1,9 @@
 // Reading one field after the other.
-ghost use Rattle.std.specs.Prelude.{◌≡◌, ◌-◌, ◌^◌, [], length, IfOk};
-ghost use Rattle.report_frame.specs.Format.Size.{OneByte, TwoBytes, FourBytes, EightBytes};
+ghost use Rattle.std.specs.Prelude.{◌≡◌, ◌-◌, ◌^◌, [], length, Some, IfOk};
+ghost use Rattle.byte_format.specs.Format.Size.{OneByte, TwoBytes, FourBytes, EightBytes};
 ghost use Rattle.report_frame.specs.declared.version.Version.TheVariants.{One, Two};
-ghost use Rattle.report_frame.specs.Reading.{Reads, number_at, bytes_at, end_at};
+ghost use Rattle.byte_format.specs.Reading.{number_at, bytes_at, end_at};
+ghost use Rattle.report_frame.specs.Reading.{Reads, frames};
 ghost use Rattle.report_frame.specs.Versions.{version_number};
 
 use crate::fault::{FaultKind, Misread};
@@ -13,7 +14,7 @@ use field61::MODULUS;
 
 /// So many bytes, and what follows them.
 pub(crate) fn read_bytes(bytes: &[u8], at: usize, size: usize) -> Result<(&[u8], &[u8]), Misread>
-    ensures found { Reads (λ x. (x.0.now, x.1.now)) result (bytes_at size at bytes.now) }
+    ensures found { Reads (λ x. (x.0.now, x.1.now)) result (bytes_at frames size at bytes.now) }
     ensures size { IfOk result (λ x. length x.0.now ≡ size) }
 {
     if bytes.len() < size {
@@ -30,7 +31,7 @@ pub(crate) fn read_array<const N: usize>(
     bytes: &[u8],
     at: usize,
 ) -> Result<(&[u8; N], &[u8]), Misread>
-    ensures { Reads (λ x. (x.0.now, x.1.now)) result (bytes_at N at bytes.now) }
+    ensures { Reads (λ x. (x.0.now, x.1.now)) result (bytes_at frames N at bytes.now) }
 {
     match bytes.split_first_chunk::<N>() {
         Some((front, rest)) => Ok((front, rest)),
@@ -49,7 +50,7 @@ pub(crate) fn read_u8(
     low: u8,
     high: u8,
 ) -> Result<(u8, &[u8]), Misread>
-    ensures { Reads (λ x. (x.0, x.1.now)) result (number_at OneByte kind low high at bytes.now) }
+    ensures { Reads (λ x. (x.0, x.1.now)) result (number_at frames OneByte kind low high at bytes.now) }
 {
     let (front, rest) = read_bytes(bytes, at, 1)?;
     let n = front[0];
@@ -67,7 +68,7 @@ pub(crate) fn read_u16(
     low: u16,
     high: u16,
 ) -> Result<(u16, &[u8]), Misread>
-    ensures { Reads (λ x. (x.0, x.1.now)) result (number_at TwoBytes kind low high at bytes.now) }
+    ensures { Reads (λ x. (x.0, x.1.now)) result (number_at frames TwoBytes kind low high at bytes.now) }
 {
     let (front, rest) = read_bytes(bytes, at, 2)?;
     let n = u16::from_be_bytes([front[0], front[1]]);
@@ -82,7 +83,7 @@ pub(crate) fn read_u32(bytes: &[u8], at: usize) -> Result<(u32, &[u8]), Misread>
     ensures { Reads (λ x. (
       x.0,
       x.1.now,
-    )) result (number_at FourBytes FaultKind.Truncated 0 (2 ^ 32 - 1) at bytes.now) }
+    )) result (number_at frames FourBytes FaultKind.Truncated 0 (2 ^ 32 - 1) at bytes.now) }
 {
     let (front, rest) = read_bytes(bytes, at, 4)?;
     Ok((
@@ -101,7 +102,7 @@ pub(crate) fn read_element(
     ensures { Reads (λ x. (
       x.0,
       x.1.now,
-    )) result (number_at EightBytes kind low (MODULUS - 1) at bytes.now) }
+    )) result (number_at frames EightBytes kind low (MODULUS - 1) at bytes.now) }
 {
     let (front, rest) = read_bytes(bytes, at, 8)?;
     let n = u64::from_be_bytes([
@@ -116,7 +117,7 @@ pub(crate) fn read_element(
 /// What follows the magic.
 pub(crate) fn skip_magic(bytes: &[u8]) -> Result<&[u8], Misread>
     ensures { Reads (λ rest.
-        (MAGIC, rest.now)) result (number_at TwoBytes FaultKind.Magic MAGIC MAGIC 0 bytes.now) }
+        (MAGIC, rest.now)) result (number_at frames TwoBytes FaultKind.Magic MAGIC MAGIC 0 bytes.now) }
 {
     let (_, rest) = read_u16(bytes, 0, FaultKind::Magic, MAGIC, MAGIC)?;
     Ok(rest)
@@ -125,7 +126,7 @@ pub(crate) fn skip_magic(bytes: &[u8]) -> Result<&[u8], Misread>
 /// The version, and what follows it.
 pub(crate) fn read_version(bytes: &[u8]) -> Result<(Version, &[u8]), Misread>
     ensures { Reads (λ x. (version_number x.0, x.1.now)) result
-        (number_at OneByte FaultKind.Version (version_number One) (version_number Two) VERSION_AT
+        (number_at frames OneByte FaultKind.Version (version_number One) (version_number Two) VERSION_AT
         bytes.now) }
 {
     let (front, rest) = read_bytes(bytes, VERSION_AT, 1)?;
@@ -140,7 +141,7 @@ pub(crate) fn read_version(bytes: &[u8]) -> Result<(Version, &[u8]), Misread>
 
 /// Nothing may follow the seal.
 pub(crate) fn read_end(bytes: &[u8], at: usize) -> Result<(), Misread>
-    ensures { Reads (λ _. []) result (end_at at bytes.now) }
+    ensures { Reads (λ _. []) result (end_at frames (Some FaultKind.Trailing) at bytes.now) }
 {
     match bytes {
         [] => Ok(()),

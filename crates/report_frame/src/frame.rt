@@ -1,8 +1,9 @@
 // Reading the fields of a frame.
-ghost use Rattle.std.specs.Prelude.{◌≡◌, IfOk};
+ghost use Rattle.std.specs.Prelude.{[]};
 ghost use Rattle.report_frame.specs.Frame.{entries, frame, back};
-ghost use Rattle.report_frame.specs.Reading.{Reads, read};
-ghost use Rattle.report_frame.specs.Parts.{fields_of_parts, back_entries};
+ghost use Rattle.byte_format.specs.Reading.{read};
+ghost use Rattle.report_frame.specs.Reading.{Reads, frames};
+ghost use Rattle.report_frame.specs.Parts.{fields_of_parts, entries_of_front};
 
 use crate::fault::{FaultKind, Misread};
 use crate::fields::{
@@ -17,9 +18,9 @@ use crate::places::{
 };
 
 /// The fields of a frame, or the first fault, whatever its length.
-#[tactic(auto, unfolding(crate::specs::Reading::read))]
+#[tactic(auto, unfolding(byte_format::specs::Reading::read))]
 pub(crate) fn read_frame(bytes: &[u8]) -> Result<Parts<'_>, Misread>
-    ensures { Reads (λ p. entries (fields_of_parts p)) result (read frame 0 bytes.now) }
+    ensures { Reads (λ p. entries (fields_of_parts p)) result (read frames frame 0 [] bytes.now) }
 {
     let rest = skip_magic(bytes)?;
     let (version, rest) = read_version(rest)?;
@@ -55,10 +56,10 @@ pub(crate) fn read_frame(bytes: &[u8]) -> Result<Parts<'_>, Misread>
 }
 
 // The fields from the box on.
-#[tactic(auto, unfolding(crate::specs::Reading::read))]
+#[tactic(auto, unfolding(byte_format::specs::Reading::read))]
 fn read_back<'a>(front: Front<'a>, bytes: &'a [u8]) -> Result<Parts<'a>, Misread>
-    ensures back { Reads back_entries result (read back BOX_LENGTH_AT bytes.now) }
-    ensures front { IfOk result (λ p. p.front ≡ front.entry) }
+    ensures { Reads (λ p. entries (fields_of_parts p)) result
+        (read frames back BOX_LENGTH_AT (entries_of_front front.entry) bytes.now) }
 {
     let (size, rest) = read_u8(
         bytes,

@@ -5,7 +5,7 @@ ghost use Rattle.star_io.specs.Bytes.{AreBytes};
 ghost use Rattle.report_frame.specs.declared.fault.Fault.{Fault};
 ghost use Rattle.report_frame.specs.declared.limits.TheConstants.{MAGIC, MAX_LAYERS, MIN_THRESHOLD, TAG_BYTES, CHECK_BYTES, MAX_VALUE, NONCE_BYTES, SEAL_BYTES, FRONT_BYTES, FIXED_BYTES, MAX_EXTRA};
 ghost use Rattle.report_frame.specs.declared.version.Version.TheVariants.{One, Two};
-ghost use Rattle.report_frame.specs.Format.{spelling};
+ghost use Rattle.byte_format.specs.Format.{spelling};
 ghost use Rattle.report_frame.specs.Frame.{Fields, IsFrame, FaultAt, entries, frame, sealed_part};
 ghost use Rattle.report_frame.specs.Laws.{InRange, IsOneFrame, HasOneFault};
 ghost use Rattle.report_frame.specs.Reading.{decoded};

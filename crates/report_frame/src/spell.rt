@@ -1,7 +1,7 @@
 // The frame of a report.
 ghost use Rattle.std.specs.Prelude.{◌≡◌, ◌++◌, ◌+◌, ◌-◌, Ok, length, IfOk};
 ghost use Rattle.report_frame.specs.Frame.{IsFrame, frame, sealed_part, front_entries};
-ghost use Rattle.report_frame.specs.Format.{spelling};
+ghost use Rattle.byte_format.specs.Format.{spelling};
 ghost use Rattle.report_frame.specs.Reading.{decoded};
 ghost use Rattle.report_frame.specs.Report.{IsGood, fields_of_report};
 

@@ -6,14 +6,14 @@ use Rattle.std.proofs.lemmas.List.Sums.{sum_by-append}
 use Rattle.std.specs.Int.{to_be_bytes}
 use Rattle.report_frame.specs.declared.version.Version.TheVariants.{One, Two}
 use Rattle.report_frame.specs.Versions.{version_number, version_of}
-use Rattle.report_frame.specs.Format.{Entry, width}
-use Rattle.report_frame.specs.Format.Size.{OneByte, EightBytes}
-use Rattle.report_frame.specs.Format.Entry.{Number}
-use Rattle.report_frame.proofs.Sizes.{length_of_spelling}
+use Rattle.byte_format.specs.Format.{Format, Entry, spelling, width}
+use Rattle.byte_format.specs.Format.Size.{OneByte, EightBytes}
+use Rattle.byte_format.specs.Format.Entry.{Number}
+use Rattle.byte_format.specs.Format.Format.{NumberField}
+use Rattle.byte_format.proofs.Sizes.{length_of_spelling}
 use Rattle.cert_audit.specs.declared.limits.TheConstants.{CERT_MAGIC, CERT_FORMAT}
-use Rattle.cert_audit.specs.declared.kind.CertKind.TheVariants.{Magic, Format, Range}
-use Rattle.cert_audit.specs.Layout.{Layout, spelling}
-use Rattle.cert_audit.specs.Layout.Layout.{NumberField}
+use Rattle.cert_audit.specs.declared.kind.CertKind.{CertKind}
+use Rattle.cert_audit.specs.declared.kind.CertKind.TheVariants.{Magic, Format as FormatFault, Range}
 use Rattle.cert_audit.specs.declared.cert.Cert.{Cert}
 use Rattle.cert_audit.specs.declared.cert.ReadCert.{ReadCert}
 use Rattle.cert_audit.specs.declared.fault.CertFault.{CertFault}
@@ -35,7 +35,8 @@ behind done found = record { certs = done ++ found.certs; fault = found.fault }
 front_some : (front rest : List ℕ) → 1 ≤ length front → 1 ≤ length (front ++ rest)
 front_some front rest some = omega (arith, length-append front rest)
 
-some_spelt : (n : ℕ) (next : ℕ → Layout) (es : List Entry) → 1 ≤ length (spelling (NumberField EightBytes Magic CERT_MAGIC CERT_MAGIC next) (Number n ∷ es))
+some_spelt : (n : ℕ) (next : ℕ → Format CertKind) (es : List Entry)
+    → 1 ≤ length (spelling (NumberField EightBytes Magic CERT_MAGIC CERT_MAGIC next) (Number n ∷ es))
 some_spelt n next es = front_some (to_be_bytes (width EightBytes) n) (spelling (next n) es) (omega (arith, length_of_spelling EightBytes n))
 
 -- the spelling of a certificate has a byte
@@ -43,7 +44,8 @@ pub some_bytes : (cert : Cert) → 1 ≤ length (cert_spelling cert)
 unfolding cert_spelling
 some_bytes cert =
     some_spelt CERT_MAGIC
-    (λ _. NumberField OneByte Format CERT_FORMAT CERT_FORMAT (λ _. NumberField OneByte Range (version_number One) (version_number Two) (λ number. behind_version (version_of number))))
+    (λ _. NumberField OneByte FormatFault CERT_FORMAT CERT_FORMAT (λ _.
+    NumberField OneByte Range (version_number One) (version_number Two) (λ number. behind_version (version_of number))))
     (drop 1 (entries cert))
 
 drop-zero : (bytes : List ℕ) → drop 0 bytes ≡ bytes

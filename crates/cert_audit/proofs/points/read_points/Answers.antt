@@ -1,20 +1,20 @@
 use Rattle.std.proofs.Common.{◌≡◌, ◌∙◌, ℕ, suc, ◌+◌, ◌-◌, ◌*◌, List, [], ◌∷◌, ◌++◌, length, drop, Err, sym, ap, subst, arith, length-drop}
 use Rattle.std.specs.Prelude.{All}
 use Rattle.std.proofs.lemmas.List.Elements.{All-push}
-use Rattle.report_frame.specs.Format.{Entry}
+use Rattle.byte_format.specs.Format.{Format, Entry}
 use Rattle.shamir_limbs.specs.declared.share.Point.{Point}
 use Rattle.cert_audit.specs.declared.fault.CertFault.{CertFault}
-use Rattle.cert_audit.specs.Layout.{Layout}
+use Rattle.cert_audit.specs.declared.kind.CertKind.{CertKind}
 use Rattle.cert_audit.specs.Certificate.{points_layout, entries_of_point, point_entries}
-use Rattle.cert_audit.specs.Reading.{read}
-use Rattle.cert_audit.proofs.Walk.{Answer}
+use Rattle.byte_format.specs.Reading.{read}
+use Rattle.cert_audit.specs.Reading.{certs, Answer}
 use Rattle.cert_audit.proofs.Steps.{points_next, points_more, points_all, drop-behind}
 use Rattle.cert_audit.proofs.Whole.{at_exit}
 use Rattle.cert_audit.proofs.points.read_points.Goals as goal
 
 -- the fault of so many points that are read at this place
 abbrev FaultOf : ℕ → ℕ → List ℕ → CertFault → Type 0
-FaultOf n at bytes e = (next : Layout) (before : List Entry) → read (points_layout n 0 next) at before bytes ≡ Err e
+FaultOf n at bytes e = (next : Format CertKind) (before : List Entry) → read certs (points_layout n 0 next) at before bytes ≡ Err e
 
 pub returns-in_err-four-clause-fault : goal.returns-in_err-four-clause-fault
 returns-in_err-four-clause-fault c =
@@ -23,8 +23,8 @@ returns-in_err-four-clause-fault c =
     let at : ℕ = c.args.at in
     let points : List Point = c.loop-i.points.items in
     at_exit (FaultOf n at c.args.bytes.now) c.from_residual.result c.in_err-four.field-0.0 c.from_residual.ensures.1 (λ next before.
-    points_next n i c.loop-i.above at next before points c.loop-i.rest.now (read (points_layout n 0 next) at before c.args.bytes.now) c.loop-i-test.true (c.loop-i.invariant.walk next before)
-    ∙ ap (λ (a : ℕ). read (points_layout (suc (n - (i + 1))) a next) (at + 32 * i) (before ++ point_entries points) c.loop-i.rest.now) (sym c.value.ensures.same)
+    points_next n i c.loop-i.above at next before points c.loop-i.rest.now (read certs (points_layout n 0 next) at before c.args.bytes.now) c.loop-i-test.true (c.loop-i.invariant.walk next before)
+    ∙ ap (λ (a : ℕ). read certs (points_layout (suc (n - (i + 1))) a next) (at + 32 * i) (before ++ point_entries points) c.loop-i.rest.now) (sym c.value.ensures.same)
     ∙ c.in_err-four.ensures.fault (n - (i + 1)) next (before ++ point_entries points))
 
 pub loop-i-preserved : goal.loop-i-preserved
@@ -39,14 +39,14 @@ loop-i-preserved c =
     let items : c.push_reserved.new.self.items ≡ points ++ p ∷ [] = c.push_reserved.ensures.items in
     record {
       walk = λ next before.
-          let start : Answer = read (points_layout n 0 next) at before c.args.bytes.now in
+          let start : Answer = read certs (points_layout n 0 next) at before c.args.bytes.now in
           let here : List Entry = before ++ point_entries points in
           points_more n i at next before points p behind start
           (points_next n i c.loop-i.above at next before points c.loop-i.rest.now start c.loop-i-test.true (inv.walk next before)
-          ∙ ap (λ (a : ℕ). read (points_layout (suc (n - (i + 1))) a next) (at + 32 * i) here c.loop-i.rest.now) (sym c.value.ensures.same)
+          ∙ ap (λ (a : ℕ). read certs (points_layout (suc (n - (i + 1))) a next) (at + 32 * i) here c.loop-i.rest.now) (sym c.value.ensures.same)
           ∙ c.in_ok-four.ensures.ok (n - (i + 1)) next here
-          ∙ ap (λ (q : Point). read (points_layout (n - (i + 1)) q.x next) (at + 32 * i + 32) (here ++ entries_of_point q) behind) (sym c.point_of-point.ensures))
-          ∙ ap (λ (ps : List Point). read (points_layout (n - (i + 1)) p.x next) (at + 32 * (i + 1)) (before ++ point_entries ps) behind) (sym items);
+          ∙ ap (λ (q : Point). read certs (points_layout (n - (i + 1)) q.x next) (at + 32 * i + 32) (here ++ entries_of_point q) behind) (sym c.point_of-point.ensures))
+          ∙ ap (λ (ps : List Point). read certs (points_layout (n - (i + 1)) p.x next) (at + 32 * (i + 1)) (before ++ point_entries ps) behind) (sym items);
       many = omega (arith, c.push_reserved.ensures.len, inv.many);
       capacity = c.push_reserved.ensures.capacity ∙ inv.capacity;
       three = subst (All (λ q. length q.y ≡ 3)) (sym items) (All-push (λ (q : Point). length q.y ≡ 3) points p inv.three (ap (λ (q : Point). length q.y) c.point_of-point.ensures));
@@ -60,5 +60,5 @@ returns-clause-ok c next before =
     let i : ℕ = c.loop-i.i in
     let inv = c.loop-i.invariant in
     let all : i ≡ n = omega arith in
-    points_all n i c.loop-i.above c.args.at next before c.loop-i.points.items c.loop-i.rest.now (read (points_layout n 0 next) c.args.at before c.args.bytes.now) all (inv.walk next before)
-    ∙ ap (λ (b : List ℕ). read next (c.args.at + 32 * n) (before ++ point_entries c.loop-i.points.items) b) (inv.rest ∙ ap (λ (m : ℕ). drop (32 * m) c.args.bytes.now) all)
+    points_all n i c.loop-i.above c.args.at next before c.loop-i.points.items c.loop-i.rest.now (read certs (points_layout n 0 next) c.args.at before c.args.bytes.now) all (inv.walk next before)
+    ∙ ap (λ (b : List ℕ). read certs next (c.args.at + 32 * n) (before ++ point_entries c.loop-i.points.items) b) (inv.rest ∙ ap (λ (m : ℕ). drop (32 * m) c.args.bytes.now) all)

@@ -2,13 +2,14 @@ use Rattle.std.proofs.Common.{◌≡◌, ◌∙◌, ℕ, ◌+◌, ◌*◌, List,
 use Rattle.std.proofs.lemmas.List.{take_rest}
 use Rattle.star_io.proofs.ByteLists.{AreBytes-from_fits}
 use Rattle.report_frame.specs.declared.head.Head.{Head}
-use Rattle.report_frame.specs.Format.{Entry}
+use Rattle.byte_format.specs.Format.{Entry}
 use Rattle.shamir_limbs.specs.declared.share.Point.{Point}
 use Rattle.cert_audit.specs.declared.cert.Cert.{Cert}
 use Rattle.cert_audit.specs.declared.cert.ReadCert.{ReadCert}
 use Rattle.cert_audit.specs.Certificate.{certificate, numbers_layout, point_entries, entries, BeginsWith}
 use Rattle.cert_audit.specs.Front.{entries_of_front, head_of_front}
-use Rattle.cert_audit.specs.Reading.{read}
+use Rattle.byte_format.specs.Reading.{read}
+use Rattle.cert_audit.specs.Reading.{certs}
 use Rattle.cert_audit.proofs.Whole.{bad_read, bad_fault, whole_walk, cert_of}
 use Rattle.cert_audit.proofs.CertLaws.{entries_read, reading-cert}
 use Rattle.cert_audit.proofs.read.read_cert.Goals as goal
@@ -39,7 +40,7 @@ returns-in_err-numbers-clause-read c =
     let before : List Entry = entries_of_front f ++ point_entries c.in_ok-points.points.items in
     bad_read c.args.bytes.now c.from_residual-in_err-numbers.result c.in_err-numbers.field-0.0 (AreBytes-from_fits _ c.type_inv.bytes) c.from_residual-in_err-numbers.ensures.1
     (c.in_ok-front.ensures.ok ∙ c.in_ok-points.ensures.ok (numbers_layout (3 * f.start.k)) (entries_of_front f)
-    ∙ ap (λ (b : List ℕ). read (numbers_layout (3 * f.start.k)) (f.at + 32 * f.points) before b) (sym (take_rest f.rest.now (32 * f.points)))
+    ∙ ap (λ (b : List ℕ). read certs (numbers_layout (3 * f.start.k)) (f.at + 32 * f.points) before b) (sym (take_rest f.rest.now (32 * f.points)))
     ∙ c.in_err-numbers.ensures.fault before)
 
 pub returns-in_err-numbers-clause-fault : goal.returns-in_err-numbers-clause-fault
@@ -48,7 +49,7 @@ returns-in_err-numbers-clause-fault c =
     let before : List Entry = entries_of_front f ++ point_entries c.in_ok-points.points.items in
     bad_fault c.args.bytes.now c.from_residual-in_err-numbers.result c.in_err-numbers.field-0.0 (AreBytes-from_fits _ c.type_inv.bytes) c.from_residual-in_err-numbers.ensures.1
     (c.in_ok-front.ensures.ok ∙ c.in_ok-points.ensures.ok (numbers_layout (3 * f.start.k)) (entries_of_front f)
-    ∙ ap (λ (b : List ℕ). read (numbers_layout (3 * f.start.k)) (f.at + 32 * f.points) before b) (sym (take_rest f.rest.now (32 * f.points)))
+    ∙ ap (λ (b : List ℕ). read certs (numbers_layout (3 * f.start.k)) (f.at + 32 * f.points) before b) (sym (take_rest f.rest.now (32 * f.points)))
     ∙ c.in_err-numbers.ensures.fault before)
 
 pub head_of-requires-clause-low : goal.head_of-requires-clause-low
@@ -65,10 +66,10 @@ returns-clause-found c =
     let used : ℕ = f.at + 32 * f.points + 8 * (3 * f.start.k) in
     let cert : Head → List Point → List ℕ → Cert = λ h ps ns.
     record { level = f.start.level; epoch = f.start.epoch; parent = f.parent.now; head = h; points = ps; numbers = ns } in
-    let walk : read certificate 0 [] c.args.bytes.now ≡ Ok (entries (cert_of f points numbers), used) =
+    let walk : read certs certificate 0 [] c.args.bytes.now ≡ Ok (entries (cert_of f points numbers), used) =
     whole_walk c.args.bytes.now f.rest.now (take (length f.rest.now - 32 * f.points) (drop (32 * f.points) f.rest.now)) f f.at (3 * f.start.k) points numbers c.in_ok-points.ensures.many refl c.in_ok-front.ensures.ok
     (c.in_ok-points.ensures.ok (numbers_layout (3 * f.start.k)) (entries_of_front f)
-    ∙ ap (λ (b : List ℕ). read (numbers_layout (3 * f.start.k)) (f.at + 32 * f.points) (entries_of_front f ++ point_entries points) b) (sym (take_rest f.rest.now (32 * f.points))))
+    ∙ ap (λ (b : List ℕ). read certs (numbers_layout (3 * f.start.k)) (f.at + 32 * f.points) (entries_of_front f ++ point_entries points) b) (sym (take_rest f.rest.now (32 * f.points))))
     (c.in_ok-numbers.ensures.ok (entries_of_front f ++ point_entries points)) in
     let begins : BeginsWith (cert_of f points numbers) used c.args.bytes.now =
     entries_read c.args.bytes.now (cert_of f points numbers) used (AreBytes-from_fits _ c.type_inv.bytes) c.in_ok-points.ensures.three walk in

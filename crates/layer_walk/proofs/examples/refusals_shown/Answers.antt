@@ -1,5 +1,6 @@
 use Rattle.std.proofs.Common.{refl}
-use Rattle.report_frame.specs.Reading.{read, decoded}
+use Rattle.byte_format.specs.Reading.{read}
+use Rattle.report_frame.specs.Reading.{decoded}
 use Rattle.star_lists.specs.Ascending.{in_order}
 use Rattle.layer_walk.specs.Levels.{rows_from, next_rows, opened_at, counts_at, refusals_at, aux_at}
 use Rattle.layer_walk.specs.Reveal.{outer_rows, outer_refusals, groups_told, levels_told, refusals_told, aux_told, reveal_of}

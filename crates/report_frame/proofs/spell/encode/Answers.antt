@@ -1,6 +1,6 @@
 use Rattle.std.proofs.Common.{◌≡◌, ◌++◌, List, ℕ, ap, sym, subst, ◌∙◌}
 use Rattle.report_frame.specs.Frame.{IsFrame, frame, entries, sealed_part}
-use Rattle.report_frame.specs.Format.{spelling}
+use Rattle.byte_format.specs.Format.{spelling}
 use Rattle.report_frame.specs.Report.{fields_of_report}
 use Rattle.report_frame.proofs.Frames.{decoded-frame}
 use Rattle.report_frame.proofs.FrameLaws.{has_frame, sealed_then_seal}

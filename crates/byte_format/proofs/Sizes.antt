@@ -4,8 +4,8 @@ use Rattle.std.specs.Int.{w8, to_be_bytes, from_be_bytes}
 use Rattle.std.proofs.lemmas.Nat.{be_bytes_2, be_bytes_4, be_bytes_8, from_be_bytes-to_be_bytes_2, from_be_bytes-to_be_bytes_4, from_be_bytes-to_be_bytes_8}
 use Rattle.star_io.specs.Bytes.{AreBytes}
 use Rattle.star_io.proofs.ByteLists.{AreBytes-get_or}
-use Rattle.report_frame.specs.Format.{Size, width, bytes_of, number_of}
-use Rattle.report_frame.specs.Format.Size.{OneByte, TwoBytes, FourBytes, EightBytes}
+use Rattle.byte_format.specs.Format.{Size, width, bytes_of, number_of}
+use Rattle.byte_format.specs.Format.Size.{OneByte, TwoBytes, FourBytes, EightBytes}
 
 -- the first number that is too big for a size
 abbrev pub limit_of : Size → ℕ

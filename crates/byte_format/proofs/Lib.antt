@@ -1,0 +1,5 @@
+pub mod Sizes
+pub mod OneField
+pub mod Found
+pub mod Spelt
+pub mod FirstEntry
