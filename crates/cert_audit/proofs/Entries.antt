@@ -68,18 +68,16 @@ after-points (p ∷ ps) previous rest es are ascend after =
       ),
     )
 
--- the entries stand in all fields, each in its range
-pub after-entries : (c : Cert) → InRange c → After certificate (entries c) (IsEnd None)
-after-entries c range =
+-- what stands before the points is in its range, and then the points are due
+pub after-front : (c : Cert) (Q : Format CertKind → Type 0) → InRange c → Q (points_layout (length c.points) 0 (numbers_layout (3 * c.head.k)))
+    → After certificate (front_entries c) Q
+after-front c Q range behind =
     let version = sym (version_of_number c.head.version) in
     let is = range.is_cert in
     let number_is_low = number_low c.head.version in
     let number_is_high = number_high c.head.version in
     let level : c.level ≤ max_level (version_of (version_number c.head.version)) = subst (λ (v : Version). c.level ≤ max_level v) version is.level in
-    let k : c.head.k ≤ max_threshold (version_of (version_number c.head.version)) = subst (λ (v : Version). c.head.k ≤ max_threshold v) version is.k_high in
-    let numbers : After (numbers_layout (3 * c.head.k)) (number_entries c.numbers) (IsEnd None) =
-    subst (λ (m : ℕ). After (numbers_layout m) (number_entries c.numbers) (IsEnd None)) is.numbers (after-numbers c.numbers range.elements) in
-    let points = after-points c.points 0 (numbers_layout (3 * c.head.k)) (number_entries c.numbers) range.points (increasing-AscendFrom 0 (xs_of c.points) is.ascending) numbers in (
+    let k : c.head.k ≤ max_threshold (version_of (version_number c.head.version)) = subst (λ (v : Version). c.head.k ≤ max_threshold v) version is.k_high in (
       omega arith,
       omega arith,
       (
@@ -97,13 +95,23 @@ after-entries c range =
               (
                 is.k_low,
                 k,
-                (range.parent, (range.tag, (range.check, (range.box_low, range.box_high, (refl, (omega arith, is.few, points)))))),
+                (range.parent, (range.tag, (range.check, (range.box_low, range.box_high, (refl, (omega arith, is.few, behind)))))),
               ),
             ),
           ),
         ),
       ),
     )
+
+-- the entries stand in all fields, each in its range
+pub after-entries : (c : Cert) → InRange c → After certificate (entries c) (IsEnd None)
+after-entries c range =
+    let numbers : After (numbers_layout (3 * c.head.k)) (number_entries c.numbers) (IsEnd None) =
+    subst (λ (m : ℕ). After (numbers_layout m) (number_entries c.numbers) (IsEnd None)) range.is_cert.numbers
+    (after-numbers c.numbers range.elements) in
+    after-front c (λ f. After f (point_entries c.points ++ number_entries c.numbers) (IsEnd None)) range
+    (after-points c.points 0 (numbers_layout (3 * c.head.k)) (number_entries c.numbers) range.points
+    (increasing-AscendFrom 0 (xs_of c.points) range.is_cert.ascending) numbers)
 
 -- ---- the certificate of entries
 
