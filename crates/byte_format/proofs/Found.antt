@@ -44,10 +44,12 @@ found_number reader size fault low high next at before bytes are_bytes others =
       | OutOfRange whole out is ↦ Wrong [] bytes fault at (inr (whole, refl, out)) refl (omega arith) (ap then is)
       | Within whole enough within is ↦
           let front_len : length front ≡ bytes_of size = omega (arith, length-take (bytes_of size) bytes) in
-          let spelt : to_be_bytes (width size) n ≡ front = spelling_of_number size front front_len (AreBytes-take (bytes_of size) bytes are_bytes) in
+          let spelt : to_be_bytes (width size) n ≡ front =
+          spelling_of_number size front front_len (AreBytes-take (bytes_of size) bytes are_bytes) in
           let parts : bytes ≡ to_be_bytes (width size) n ++ back =
           sym (ap (λ (l : List ℕ). l ++ back) spelt ∙ take-append-drop (bytes_of size) bytes) in
-          let longer : (es : List Entry) → length (to_be_bytes (width size) n ++ spelling (next n) es) ≡ bytes_of size + length (spelling (next n) es) =
+          let longer : (es : List Entry) → length (to_be_bytes (width size) n ++ spelling (next n) es)
+          ≡ bytes_of size + length (spelling (next n) es) =
           λ es. omega (arith, length_of_spelling size n, length-append (to_be_bytes (width size) n) (spelling (next n) es)) in
           let again : (es : List Entry) (rest : List ℕ) → back ≡ spelling (next n) es ++ rest
           → bytes ≡ (to_be_bytes (width size) n ++ spelling (next n) es) ++ rest = λ es rest back_is.
@@ -55,7 +57,8 @@ found_number reader size fault low high next at before bytes are_bytes others =
           ∙ sym (append_assoc (to_be_bytes (width size) n) (spelling (next n) es) rest) in
           elim (others n (before ++ Number n ∷ []) back (AreBytes-drop (bytes_of size) bytes are_bytes)) [
             | Whole es rest trailing place after may back_is place_is found ↦
-                Whole (Number n ∷ es) rest trailing place (enough, within, after) may (again es rest back_is) (omega (arith, place_is, longer es))
+                Whole (Number n ∷ es) rest trailing place (enough, within, after) may (again es rest back_is)
+                (omega (arith, place_is, longer es))
                 (ap then is ∙ found ∙ ap (λ (l : List Entry). Ok (reader.done l place)) (append_assoc before (Number n ∷ []) es))
             | Wrong es rest kind place after back_is place_is found ↦
                 Wrong (Number n ∷ es) rest kind place (enough, within, after) (again es rest back_is) (omega (arith, place_is, longer es))
@@ -82,7 +85,8 @@ found_bytes reader len next at before bytes are_bytes others =
           λ es rest back_is. parts ∙ ap (λ (l : List ℕ). front ++ l) back_is ∙ sym (append_assoc front (spelling next es) rest) in
           elim (others (before ++ Bytes front ∷ []) back (AreBytes-drop len bytes are_bytes)) [
             | Whole es rest trailing place after may back_is place_is found ↦
-                Whole (Bytes front ∷ es) rest trailing place (front_len, after) may (again es rest back_is) (omega (arith, place_is, longer es))
+                Whole (Bytes front ∷ es) rest trailing place (front_len, after) may (again es rest back_is)
+                (omega (arith, place_is, longer es))
                 (ap then is ∙ found ∙ ap (λ (l : List Entry). Ok (reader.done l place)) (append_assoc before (Bytes front ∷ []) es))
             | Wrong es rest kind place after back_is place_is found ↦
                 Wrong (Bytes front ∷ es) rest kind place (front_len, after) (again es rest back_is) (omega (arith, place_is, longer es))

@@ -3,3 +3,4 @@ pub mod OneField
 pub mod Found
 pub mod Spelt
 pub mod FirstEntry
+pub mod Answered

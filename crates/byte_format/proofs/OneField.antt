@@ -82,7 +82,8 @@ read-number_fault reader size fault low high next at place before bytes e same i
 
 -- the same behind entries of which some were read before
 pub read-number_behind : {K E A : Type 0} (reader : Reader K E A) (size : Size) (fault : K) (low high : ℕ) (next : ℕ → Format K)
-    (at end : ℕ) (before front : List Entry) (bytes : List ℕ) (n : ℕ) (tail : List ℕ) → number_at reader size fault low high at bytes ≡ Ok (n, tail)
+    (at end : ℕ) (before front : List Entry) (bytes : List ℕ) (n : ℕ) (tail : List ℕ) → number_at reader size fault low high at bytes
+    ≡ Ok (n, tail)
     → at + bytes_of size ≡ end
     → read reader (NumberField size fault low high next) at (before ++ front) bytes
     ≡ read reader (next n) end (before ++ (front ++ Number n ∷ [])) tail

@@ -20,7 +20,8 @@ spelling_of_byte (b ∷ []) one are_bytes = ap (λ (n : ℕ). n ∷ []) (omega (
 spelling_of_byte (b ∷ c ∷ bs) one are_bytes = absurd (omega arith)
 
 -- bytes are the spelling of the number that they spell
-pub spelling_of_number : (size : Size) (bytes : List ℕ) → length bytes ≡ bytes_of size → AreBytes bytes → to_be_bytes (width size) (number_of size bytes) ≡ bytes
+pub spelling_of_number : (size : Size) (bytes : List ℕ) → length bytes ≡ bytes_of size → AreBytes bytes
+    → to_be_bytes (width size) (number_of size bytes) ≡ bytes
 spelling_of_number OneByte bytes whole are_bytes = spelling_of_byte bytes whole are_bytes
 spelling_of_number TwoBytes bytes whole are_bytes = be_bytes_2 bytes _ whole (λ i. AreBytes-get_or bytes i are_bytes) refl
 spelling_of_number FourBytes bytes whole are_bytes = be_bytes_4 bytes _ whole (λ i. AreBytes-get_or bytes i are_bytes) refl

@@ -28,7 +28,8 @@ leads_number reader size fault low high next at n before tail sound enough withi
     let back : drop (bytes_of size) bytes ≡ tail = drop_at spelt tail (bytes_of size) spelt_len in
     let n_is : number_of size (take (bytes_of size) bytes) ≡ n = ap (number_of size) front ∙ number_of_spelling size n (omega arith) in
     let then = on_number reader size next at before in
-    let Goal : Type 0 = then (number_at reader size fault low high at bytes) ≡ read reader (next n) (at + bytes_of size) (before ++ Number n ∷ []) tail in
+    let Goal : Type 0 =
+    then (number_at reader size fault low high at bytes) ≡ read reader (next n) (at + bytes_of size) (before ++ Number n ∷ []) tail in
     elim (number_step reader size fault low high at bytes) as (λ _. Goal) [
       | Short short read_is ↦ absurd (omega (arith, short, spelt_len, length-append spelt tail))
       | OutOfRange whole out read_is ↦ elim out as (λ _. Goal) [
@@ -58,7 +59,8 @@ leads_bytes reader len next at b before tail b_len =
 -- reading goes through the entries that the bytes begin with, and then reads what follows them
 leads : {K E A : Type 0} (reader : Reader K E A) (format : Format K) (at : ℕ) (before es : List Entry) (rest : List ℕ)
     (Q : Format K → Type 0) (answer : Result A E) → IsSound format → After format es Q
-    → ((next : Format K) (place : ℕ) → Q next → place ≡ at + length (spelling format es) → read reader next place (before ++ es) rest ≡ answer)
+    → ((next : Format K) (place : ℕ) → Q next → place ≡ at + length (spelling format es) → read reader next place (before ++ es) rest
+    ≡ answer)
     → read reader format at before (spelling format es ++ rest) ≡ answer
 leads reader format at before [] rest Q answer sound after then =
     ap (λ (l : List Entry). read reader format at l rest) (sym (append-nil before)) ∙ then format at after (omega arith)
@@ -82,7 +84,8 @@ leads reader (BytesField len next) at before (Bytes b ∷ es) rest Q answer soun
     ∙ then f place q (omega (arith, e, after.0, length-append b others)))
 
 -- where no field follows, the entries are the answer
-pub read_end : {K E A : Type 0} (reader : Reader K E A) (next : Format K) (place : ℕ) (before : List Entry) (trailing : Option K) (rest : List ℕ)
+pub read_end : {K E A : Type 0} (reader : Reader K E A) (next : Format K) (place : ℕ) (before : List Entry) (trailing : Option K)
+    (rest : List ℕ)
     → IsEnd trailing next → MayFollow trailing rest → read reader next place before rest ≡ Ok (reader.done before place)
 unfolding read
 read_end reader (End None) place before None rest is_end may = refl
@@ -98,7 +101,8 @@ read_wrong : {K E A : Type 0} (reader : Reader K E A) (next : Format K) (place :
 unfolding read
 read_wrong reader (End None) place before rest kind wrong = absurd wrong
 read_wrong reader (End (Some trailing)) place before [] kind wrong = absurd (omega (arith, wrong.0))
-read_wrong {K} {E} {A} reader (End (Some trailing)) place before (b ∷ rest) kind wrong = ap (λ (k : K). Err (reader.fail k place)) (sym wrong.1)
+read_wrong {K} {E} {A} reader (End (Some trailing)) place before (b ∷ rest) kind wrong = ap (λ (k : K). Err (reader.fail k place))
+    (sym wrong.1)
 read_wrong {K} {E} {A} reader (NumberField size fault low high next) place before rest kind wrong =
     let then = on_number reader size next place before in
     let same : K → Result A E = λ k. Err (reader.fail k place) in
@@ -141,18 +145,21 @@ pub read-wrong : {K E A : Type 0} (reader : Reader K E A) (format : Format K) (a
     → IsSound format → After format es (IsWrong reader.short rest kind)
     → read reader format at [] (spelling format es ++ rest) ≡ Err (reader.fail kind (at + length (spelling format es)))
 read-wrong reader format at es rest kind sound after =
-    leads reader format at [] es rest (IsWrong reader.short rest kind) (Err (reader.fail kind (at + length (spelling format es)))) sound after
+    leads reader format at [] es rest (IsWrong reader.short rest kind)
+    (Err (reader.fail kind (at + length (spelling format es)))) sound after
     (λ next place wrong e. read_wrong reader next place es rest kind wrong ∙ ap (λ (p : ℕ). Err (reader.fail kind p)) e)
 
 -- where bytes are at fault behind the last field, they are wrong there
-wrong_behind : {K : Type 0} (short kind : K) (b : ℕ) (more : List ℕ) (next : Format K) → IsEnd (Some kind) next → IsWrong short (b ∷ more) kind next
+wrong_behind : {K : Type 0} (short kind : K) (b : ℕ) (more : List ℕ) (next : Format K) → IsEnd (Some kind) next
+    → IsWrong short (b ∷ more) kind next
 wrong_behind short kind b more (End None) is_end = absurd cc
 wrong_behind short kind b more (End (Some other)) is_end = (omega arith, cc)
 wrong_behind short kind b more (NumberField size fault low high next) is_end = absurd is_end
 wrong_behind short kind b more (BytesField len next) is_end = absurd is_end
 
 -- and the fault where bytes follow entries in all fields, and none may
-pub read-trailing : {K E A : Type 0} (reader : Reader K E A) (format : Format K) (at : ℕ) (es : List Entry) (kind : K) (b : ℕ) (more : List ℕ)
+pub read-trailing : {K E A : Type 0} (reader : Reader K E A) (format : Format K) (at : ℕ) (es : List Entry) (kind : K) (b : ℕ)
+    (more : List ℕ)
     → IsSound format → After format es (IsEnd (Some kind))
     → read reader format at [] (spelling format es ++ b ∷ more) ≡ Err (reader.fail kind (at + length (spelling format es)))
 read-trailing reader format at es kind b more sound after =
@@ -173,7 +180,8 @@ spelling-append (NumberField size fault low high others) next (Number n ∷ es) 
 spelling-append (NumberField size fault low high others) next (Bytes b ∷ es) tail after = absurd after
 spelling-append (BytesField len others) next (Number n ∷ es) tail after = absurd after
 spelling-append (BytesField len others) next (Bytes b ∷ es) tail after =
-    ap (λ (l : List ℕ). b ++ l) (spelling-append others next es tail after.1) ∙ sym (append_assoc b (spelling others es) (spelling next tail))
+    ap (λ (l : List ℕ). b ++ l) (spelling-append others next es tail after.1)
+    ∙ sym (append_assoc b (spelling others es) (spelling next tail))
 
 -- bytes behind entries are spelt behind them
 pub spelling-last : {K : Type 0} (format : Format K) (es : List Entry) (b : List ℕ) (Q : Format K → Type 0)

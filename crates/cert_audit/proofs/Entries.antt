@@ -33,7 +33,8 @@ numbers_are_sound (suc m) = (omega arith, λ _. numbers_are_sound m)
 
 points_are_sound : (n previous : ℕ) (rest : Format CertKind) → IsSound rest → IsSound (points_layout n previous rest)
 points_are_sound zero previous rest sound = sound
-points_are_sound (suc n) previous rest sound = (omega arith, λ x. (omega arith, λ _. (omega arith, λ _. (omega arith, λ _. points_are_sound n x rest sound))))
+points_are_sound (suc n) previous rest sound =
+    (omega arith, λ x. (omega arith, λ _. (omega arith, λ _. (omega arith, λ _. points_are_sound n x rest sound))))
 
 pub certificate_is_sound : IsSound certificate
 certificate_is_sound = search (rules, arith, level_fits, threshold_fits, points_are_sound, numbers_are_sound)
@@ -46,7 +47,8 @@ after-numbers (n ∷ ns) elements =
     let first : n < MODULUS = All-head (λ x. x < MODULUS) n ns elements in
     (omega arith, omega (arith, first), after-numbers ns (All-tail (λ x. x < MODULUS) n ns elements))
 
-after-points : (points : List Point) (previous : ℕ) (rest : Format CertKind) (es : List Entry) → All IsPoint points → AscendFrom previous (xs_of points) → After rest es (IsEnd None)
+after-points : (points : List Point) (previous : ℕ) (rest : Format CertKind) (es : List Entry) → All IsPoint points
+    → AscendFrom previous (xs_of points) → After rest es (IsEnd None)
     → After (points_layout (length points) previous rest) (point_entries points ++ es) (IsEnd None)
 after-points [] previous rest es are ascend after = after
 after-points (p ∷ ps) previous rest es are ascend after =
@@ -69,15 +71,18 @@ after-points (p ∷ ps) previous rest es are ascend after =
     )
 
 -- what stands before the points is in its range, and then the points are due
-pub after-front : (c : Cert) (Q : Format CertKind → Type 0) → InRange c → Q (points_layout (length c.points) 0 (numbers_layout (3 * c.head.k)))
+pub after-front : (c : Cert) (Q : Format CertKind → Type 0) → InRange c
+    → Q (points_layout (length c.points) 0 (numbers_layout (3 * c.head.k)))
     → After certificate (front_entries c) Q
 after-front c Q range behind =
     let version = sym (version_of_number c.head.version) in
     let is = range.is_cert in
     let number_is_low = number_low c.head.version in
     let number_is_high = number_high c.head.version in
-    let level : c.level ≤ max_level (version_of (version_number c.head.version)) = subst (λ (v : Version). c.level ≤ max_level v) version is.level in
-    let k : c.head.k ≤ max_threshold (version_of (version_number c.head.version)) = subst (λ (v : Version). c.head.k ≤ max_threshold v) version is.k_high in (
+    let level : c.level ≤ max_level (version_of (version_number c.head.version)) =
+    subst (λ (v : Version). c.level ≤ max_level v) version is.level in
+    let k : c.head.k ≤ max_threshold (version_of (version_number c.head.version)) =
+    subst (λ (v : Version). c.head.k ≤ max_threshold v) version is.k_high in (
       omega arith,
       omega arith,
       (
@@ -158,9 +163,12 @@ points_first end (suc n) previous rest es after =
     record {
       points = p ∷ more.points;
       others = more.others;
-      is = x_is ∙ ap (λ (l : List Entry). Number x ∷ l) (y0_is ∙ ap (λ (l : List Entry). Number y0 ∷ l) (y1_is ∙ ap (λ (l : List Entry). Number y1 ∷ l) (y2_is ∙ ap (λ (l : List Entry). Number y2 ∷ l) more.is)));
+      is = x_is ∙ ap (λ (l : List Entry). Number x ∷ l)
+          (y0_is ∙ ap (λ (l : List Entry). Number y0 ∷ l)
+          (y1_is ∙ ap (λ (l : List Entry). Number y1 ∷ l) (y2_is ∙ ap (λ (l : List Entry). Number y2 ∷ l) more.is)));
       many = omega (arith, more.many);
-      are = All-cons IsPoint p more.points (record { x = omega (arith, x_high); three = refl; y0 = omega (arith, y0_high); y1 = omega (arith, y1_high); y2 = omega (arith, y2_high) }) more.are;
+      are = All-cons IsPoint p more.points
+          (record { x = omega (arith, x_high); three = refl; y0 = omega (arith, y0_high); y1 = omega (arith, y1_high); y2 = omega (arith, y2_high) }) more.are;
       ascend = (omega (arith, x_low), more.ascend);
       after = more.after;
     }))))
@@ -192,8 +200,10 @@ whole_entries end es whole =
     let is_format = le_antisymm format_high format_low in
     let is_number = number_of_version number number_low number_high in
     let head : Head = record { version = version_of number; k = k; tag = tag; check = check; boxed = boxed } in
-    let cert : Cert = record { level = level; epoch = epoch; parent = parent; head = head; points = points.points; numbers = numbers.numbers } in
-    let front : List Entry → List Entry = λ l. Number CERT_MAGIC ∷ Number CERT_FORMAT ∷ Number (version_number (version_of number)) ∷ Number level ∷ Number epoch ∷ Number k
+    let cert : Cert =
+    record { level = level; epoch = epoch; parent = parent; head = head; points = points.points; numbers = numbers.numbers } in
+    let front : List Entry → List Entry =
+    λ l. Number CERT_MAGIC ∷ Number CERT_FORMAT ∷ Number (version_number (version_of number)) ∷ Number level ∷ Number epoch ∷ Number k
     ∷ Bytes parent ∷ Bytes tag ∷ Bytes check ∷ Number (length boxed) ∷ Bytes boxed ∷ Number (length points.points) ∷ l in
     let points_many = points.many in
     let before : es ≡ front es12 = cc in
@@ -222,10 +232,13 @@ whole_entries end es whole =
 
 -- ---- and back
 
-points_in-point_entries : (points : List Point) (es : List Entry) → All (λ p. length p.y ≡ 3) points → points_in (length points) (point_entries points ++ es) ≡ points
+points_in-point_entries : (points : List Point) (es : List Entry) → All (λ p. length p.y ≡ 3) points
+    → points_in (length points) (point_entries points ++ es) ≡ points
 points_in-point_entries [] es are = refl
 points_in-point_entries (p ∷ ps) es are =
-    ap₂ (λ (y : List ℕ) (qs : List Point). let q : Point = record { x = p.x; y = y } in q ∷ qs) (three_items p.y (All-head (λ (q : Point). length q.y ≡ 3) p ps are)) (points_in-point_entries ps es (All-tail (λ (q : Point). length q.y ≡ 3) p ps are))
+    ap₂ (λ (y : List ℕ) (qs : List Point). let q : Point = record { x = p.x; y = y } in q ∷ qs)
+    (three_items p.y (All-head (λ (q : Point). length q.y ≡ 3) p ps are))
+    (points_in-point_entries ps es (All-tail (λ (q : Point). length q.y ≡ 3) p ps are))
 
 length-point_entries : (points : List Point) → length (point_entries points) ≡ 4 * length points
 length-point_entries [] = refl
@@ -238,7 +251,8 @@ numbers_in-number_entries (n ∷ ns) = ap (λ (l : List ℕ). n ∷ l) (numbers_
 behind_points : (c : Cert) → drop (12 + 4 * length c.points) (entries c) ≡ number_entries c.numbers
 behind_points c =
     ap (drop (12 + 4 * length c.points)) (sym (append_assoc (front_entries c) (point_entries c.points) (number_entries c.numbers)))
-    ∙ drop_at (front_entries c ++ point_entries c.points) (number_entries c.numbers) (12 + 4 * length c.points) (omega (arith, length-append (front_entries c) (point_entries c.points), length-point_entries c.points))
+    ∙ drop_at (front_entries c ++ point_entries c.points) (number_entries c.numbers) (12 + 4 * length c.points)
+    (omega (arith, length-append (front_entries c) (point_entries c.points), length-point_entries c.points))
 
 -- a certificate is the one of its entries
 pub cert_from-entries : (c : Cert) → All (λ p. length p.y ≡ 3) c.points → cert_from (entries c) ≡ c
@@ -246,7 +260,8 @@ cert_from-entries c are =
     let cert : Version → List Point → List ℕ → Cert = λ v ps ns.
     record { level = c.level; epoch = c.epoch; parent = c.parent; head = record { version = v; k = c.head.k; tag = c.head.tag; check = c.head.check; boxed = c.head.boxed }; points = ps; numbers = ns } in
     let numbers : List ℕ = map (λ e. number_in 0 (e ∷ [])) (drop (12 + 4 * length c.points) (entries c)) in
-    ap (λ (v : Version). cert v (points_in (length c.points) (point_entries c.points ++ number_entries c.numbers)) numbers) (version_of_number c.head.version)
+    ap (λ (v : Version). cert v (points_in (length c.points) (point_entries c.points ++ number_entries c.numbers)) numbers)
+    (version_of_number c.head.version)
     ∙ ap (λ (ps : List Point). cert c.head.version ps numbers) (points_in-point_entries c.points (number_entries c.numbers) are)
     ∙ ap (cert c.head.version c.points) (ap (map (λ e. number_in 0 (e ∷ []))) (behind_points c) ∙ numbers_in-number_entries c.numbers)
 

@@ -35,7 +35,8 @@ record SaysYes (few limbs short : Bool) (agree : ℕ) (value : Option (List ℕ)
   agrees : agree ≡ m
   opens : value ≡ Some v
 
-says_yes : (few limbs short : Bool) (agree : ℕ) (value : Option (List ℕ)) (v : List ℕ) (m : ℕ) → tested few limbs short agree value ≡ Yes v m → SaysYes few limbs short agree value v m
+says_yes : (few limbs short : Bool) (agree : ℕ) (value : Option (List ℕ)) (v : List ℕ) (m : ℕ) → tested few limbs short agree value
+    ≡ Yes v m → SaysYes few limbs short agree value v m
 says_yes true limbs short agree value v m is = absurd cc
 says_yes false false short agree value v m is = absurd cc
 says_yes false true true agree value v m is = absurd cc
@@ -49,7 +50,8 @@ says_yes false true false agree (Some w) v m is =
 
 pub polynomial-elements : (c : Cert) (j : ℕ) → InRange c → AreElements (polynomial_of c j)
 polynomial-elements c j range =
-    All-take (λ x. x < MODULUS) ((j + 1) * c.head.k - j * c.head.k) (drop (j * c.head.k) c.numbers) (All-drop (λ x. x < MODULUS) (j * c.head.k) c.numbers range.elements)
+    All-take (λ x. x < MODULUS) ((j + 1) * c.head.k - j * c.head.k) (drop (j * c.head.k) c.numbers)
+    (All-drop (λ x. x < MODULUS) (j * c.head.k) c.numbers range.elements)
 
 pub polynomial-below : (c : Cert) (j : ℕ) → HasDegreeBelow (polynomial_of c j) c.head.k
 polynomial-below c j i past =
@@ -57,7 +59,8 @@ polynomial-below c j i past =
     get_or_past (polynomial_of c j) i 0 (omega (arith, length-take n (drop (j * c.head.k) c.numbers)))
 
 pub points-elements : (c : Cert) → InRange c → AreElements (xs_of c.points)
-points-elements c range = All-map (λ x. x < MODULUS) (λ (p : Point). p.x) c.points (All-weaker IsPoint (λ p. p.x < MODULUS) (λ p is. is.x) c.points range.points)
+points-elements c range = All-map (λ x. x < MODULUS) (λ (p : Point). p.x) c.points
+    (All-weaker IsPoint (λ p. p.x < MODULUS) (λ p is. is.x) c.points range.points)
 
 pub points-distinct : (c : Cert) → InRange c → AreDistinct (xs_of c.points)
 points-distinct c range i j less within same =
@@ -68,7 +71,8 @@ points-distinct c range i j less within same =
 
 pub verdict-few : (c : Cert) → length c.points < c.head.k → verdict_of c ≡ Few
 unfolding verdict_of
-verdict-few c few = ap (λ (b : Bool). tested b (are_limbs (claimed_limbs c)) (ltb (2 * agree_of c) (length c.points + c.head.k)) (agree_of c) (claimed_value c)) (lt-ltb (length c.points) c.head.k few)
+verdict-few c few = ap (λ (b : Bool). tested b (are_limbs (claimed_limbs c)) (ltb (2 * agree_of c) (length c.points + c.head.k))
+    (agree_of c) (claimed_value c)) (lt-ltb (length c.points) c.head.k few)
 
 pub verdict-key : (c : Cert) → c.head.k ≤ length c.points → are_limbs (claimed_limbs c) ≡ false → verdict_of c ≡ WrongKey
 unfolding verdict_of
@@ -85,13 +89,17 @@ limbs_tested c many limbs =
     ap (λ (b : Bool). tested b (are_limbs (claimed_limbs c)) short (agree_of c) (claimed_value c)) (le-ltb (length c.points) c.head.k many)
     ∙ ap (λ (b : Bool). tested false b short (agree_of c) (claimed_value c)) (AreLimbs-are_limbs (claimed_limbs c) limbs)
 
-pub verdict-short : (c : Cert) → c.head.k ≤ length c.points → AreLimbs (claimed_limbs c) → 2 * agree_of c < length c.points + c.head.k → verdict_of c ≡ Short (agree_of c)
+pub verdict-short : (c : Cert) → c.head.k ≤ length c.points → AreLimbs (claimed_limbs c) → 2 * agree_of c < length c.points + c.head.k
+    → verdict_of c ≡ Short (agree_of c)
 verdict-short c many limbs short =
-    limbs_tested c many limbs ∙ ap (λ (b : Bool). tested false true b (agree_of c) (claimed_value c)) (lt-ltb (2 * agree_of c) (length c.points + c.head.k) short)
+    limbs_tested c many limbs
+    ∙ ap (λ (b : Bool). tested false true b (agree_of c) (claimed_value c)) (lt-ltb (2 * agree_of c) (length c.points + c.head.k) short)
 
-pub verdict-value : (c : Cert) → c.head.k ≤ length c.points → AreLimbs (claimed_limbs c) → length c.points + c.head.k ≤ 2 * agree_of c → verdict_of c ≡ verdict_with (agree_of c) (claimed_value c)
+pub verdict-value : (c : Cert) → c.head.k ≤ length c.points → AreLimbs (claimed_limbs c) → length c.points + c.head.k ≤ 2 * agree_of c
+    → verdict_of c ≡ verdict_with (agree_of c) (claimed_value c)
 verdict-value c many limbs enough =
-    limbs_tested c many limbs ∙ ap (λ (b : Bool). tested false true b (agree_of c) (claimed_value c)) (le-ltb (2 * agree_of c) (length c.points + c.head.k) enough)
+    limbs_tested c many limbs
+    ∙ ap (λ (b : Bool). tested false true b (agree_of c) (claimed_value c)) (le-ltb (2 * agree_of c) (length c.points + c.head.k) enough)
 
 -- where no key is found the limbs are no key's
 pub limbs_wrong : (o : Option Key) (numbers : List ℕ) → (IsSome o ↔ AreLimbs numbers) → o ≡ None → are_limbs numbers ≡ false
@@ -103,11 +111,13 @@ limbs_wrong o numbers found none =
 
 -- ---- the polynomials, cut out of the numbers
 
-polynomial_cut : (c : Cert) (numbers : List ℕ) (j from to : ℕ) → numbers ≡ c.numbers → from ≡ j * c.head.k → to ≡ (j + 1) * c.head.k → slice_range numbers from to ≡ polynomial_of c j
+polynomial_cut : (c : Cert) (numbers : List ℕ) (j from to : ℕ) → numbers ≡ c.numbers → from ≡ j * c.head.k → to ≡ (j + 1) * c.head.k
+    → slice_range numbers from to ≡ polynomial_of c j
 polynomial_cut c numbers j from to same start end = λ i. slice_range (same i) (start i) (end i)
 
 pub limbs_cut : (c : Cert) (numbers : List ℕ) → numbers ≡ c.numbers
-    → values (slice_range numbers 0 c.head.k ∷ slice_range numbers c.head.k (2 * c.head.k) ∷ slice_range numbers (2 * c.head.k) (3 * c.head.k) ∷ []) 0 ≡ claimed_limbs c
+    → values (slice_range numbers 0 c.head.k ∷ slice_range numbers c.head.k (2 * c.head.k) ∷ slice_range numbers (2 * c.head.k)
+    (3 * c.head.k) ∷ []) 0 ≡ claimed_limbs c
 limbs_cut c numbers same =
     let first = polynomial_cut c numbers 0 0 c.head.k same (omega arith) (omega arith) in
     let second = polynomial_cut c numbers 1 c.head.k (2 * c.head.k) same (omega arith) (omega arith) in
@@ -115,7 +125,8 @@ limbs_cut c numbers same =
     λ i. values (first i ∷ second i ∷ third i ∷ []) 0
 
 pub agree_cut : (c : Cert) (numbers : List ℕ) (points : List Point) → numbers ≡ c.numbers → points ≡ c.points
-    → agreement_of_all (slice_range numbers 0 c.head.k) (slice_range numbers c.head.k (2 * c.head.k)) (slice_range numbers (2 * c.head.k) (3 * c.head.k)) points ≡ agree_of c
+    → agreement_of_all (slice_range numbers 0 c.head.k) (slice_range numbers c.head.k (2 * c.head.k))
+    (slice_range numbers (2 * c.head.k) (3 * c.head.k)) points ≡ agree_of c
 agree_cut c numbers points same same_points =
     let first = polynomial_cut c numbers 0 0 c.head.k same (omega arith) (omega arith) in
     let second = polynomial_cut c numbers 1 c.head.k (2 * c.head.k) same (omega arith) (omega arith) in
@@ -130,7 +141,8 @@ unfolding verdict_of
 audit_sound c value agree range said =
     let k : ℕ = c.head.k in
     let n : ℕ = length c.points in
-    let yes = says_yes (ltb n k) (are_limbs (claimed_limbs c)) (ltb (2 * agree_of c) (n + k)) (agree_of c) (claimed_value c) value agree said in
+    let yes = says_yes (ltb n k) (are_limbs (claimed_limbs c)) (ltb (2 * agree_of c) (n + k)) (agree_of c)
+    (claimed_value c) value agree said in
     let many : k ≤ n = ltb-false n k yes.many in
     let line : IsKeyLine (polynomial_of c 0) (polynomial_of c 1) (polynomial_of c 2) c.points k = record {
       elements = (polynomial-elements c 0 range, polynomial-elements c 1 range, polynomial-elements c 2 range);
@@ -141,7 +153,8 @@ audit_sound c value agree range said =
     record {
       many = many;
       key = claimed_key c;
-      line = line_of_polynomials (polynomial_of c 0) (polynomial_of c 1) (polynomial_of c 2) c.points k (points-elements c range) (points-distinct c range) many line
+      line = line_of_polynomials (polynomial_of c 0) (polynomial_of c 1) (polynomial_of c 2) c.points k (points-elements c range)
+          (points-distinct c range) many line
           ∙ ap (λ (m : ℕ). let r : Recovered = record { key = claimed_key c; agree = m } in Some r) yes.agrees;
       opened = yes.opens;
     }
@@ -149,6 +162,7 @@ audit_sound c value agree range said =
 -- ---- completeness
 
 -- polynomials on which enough of the points lie, and whose key opens the head, have the verdict Yes
-pub audit_complete : (c : Cert) (value : List ℕ) → c.head.k ≤ length c.points → IsKeyLine (polynomial_of c 0) (polynomial_of c 1) (polynomial_of c 2) c.points c.head.k
+pub audit_complete : (c : Cert) (value : List ℕ) → c.head.k ≤ length c.points
+    → IsKeyLine (polynomial_of c 0) (polynomial_of c 1) (polynomial_of c 2) c.points c.head.k
     → claimed_value c ≡ Some value → verdict_of c ≡ Yes value (agree_of c)
 audit_complete c value many line opens = verdict-value c many line.limbs line.agrees ∙ ap (verdict_with (agree_of c)) opens

@@ -10,17 +10,23 @@ use Rattle.cert_audit.proofs.Entries.{after-front}
 use Rattle.cert_audit.proofs.Steps.{spelling-points, spelling-numbers}
 use Rattle.cert_audit.proofs.CertLaws.{reading-cert}
 
-pub cert_spelling-parts : (c : Cert) → InRange c → cert_spelling c ≡ spelling certificate (front_entries c) ++ point_bytes c.points ++ number_bytes c.numbers
+pub cert_spelling-parts : (c : Cert) → InRange c → cert_spelling c
+    ≡ spelling certificate (front_entries c) ++ point_bytes c.points ++ number_bytes c.numbers
 unfolding cert_spelling
 cert_spelling-parts c range =
     let numbers : spelling (numbers_layout (3 * c.head.k)) (number_entries c.numbers) ≡ number_bytes c.numbers =
     ap (λ (m : ℕ). spelling (numbers_layout m) (number_entries c.numbers)) (sym range.is_cert.numbers) ∙ spelling-numbers c.numbers in
-    spelling-append certificate (points_layout (length c.points) 0 (numbers_layout (3 * c.head.k))) (front_entries c) (point_entries c.points ++ number_entries c.numbers) (after-front c (λ f. f ≡ points_layout (length c.points) 0 (numbers_layout (3 * c.head.k))) range refl)
+    spelling-append certificate (points_layout (length c.points) 0 (numbers_layout (3 * c.head.k))) (front_entries c)
+    (point_entries c.points ++ number_entries c.numbers)
+    (after-front c (λ f. f ≡ points_layout (length c.points) 0 (numbers_layout (3 * c.head.k))) range refl)
     ∙ ap (λ (l : List ℕ). spelling certificate (front_entries c) ++ l)
-    (spelling-points c.points 0 (numbers_layout (3 * c.head.k)) (number_entries c.numbers) ∙ ap (λ (l : List ℕ). point_bytes c.points ++ l) numbers)
+    (spelling-points c.points 0 (numbers_layout (3 * c.head.k)) (number_entries c.numbers)
+    ∙ ap (λ (l : List ℕ). point_bytes c.points ++ l) numbers)
     ∙ sym (append_assoc (spelling certificate (front_entries c)) (point_bytes c.points) (number_bytes c.numbers))
 
 -- it reads back
-pub reading-cert_spelling : (c : Cert) (bytes : List ℕ) → InRange c → bytes ≡ cert_spelling c → reading bytes ≡ Ok (record { cert = c; used = length bytes })
+pub reading-cert_spelling : (c : Cert) (bytes : List ℕ) → InRange c → bytes ≡ cert_spelling c → reading bytes
+    ≡ Ok (record { cert = c; used = length bytes })
 reading-cert_spelling c bytes range is =
-    reading-cert (record { cert = c; used = length bytes }) bytes (record { in_range = range; rest = []; spelt = is ∙ sym (append-nil (cert_spelling c)); long = ap length is })
+    reading-cert (record { cert = c; used = length bytes }) bytes
+    (record { in_range = range; rest = []; spelt = is ∙ sym (append-nil (cert_spelling c)); long = ap length is })

@@ -35,7 +35,8 @@ elements (suc m) rest = NumberField EightBytes Range 0 (MODULUS - 1) (λ _. elem
 -- the x of a point is read, then its first share, its second and its third
 pub x_read : (above at n x : ℕ) (next : Format CertKind) (before : List Entry) (b0 b1 : List ℕ)
     → number_at certs EightBytes Range (above + 1) (MODULUS - 1) at b0 ≡ Ok (x, b1)
-    → read certs (points_layout (suc n) above next) at before b0 ≡ read certs (elements 3 (points_layout n x next)) (at + 8) (before ++ Number x ∷ []) b1
+    → read certs (points_layout (suc n) above next) at before b0
+    ≡ read certs (elements 3 (points_layout n x next)) (at + 8) (before ++ Number x ∷ []) b1
 x_read above at n x next before b0 b1 x_is =
     read-number certs EightBytes Range (above + 1) (MODULUS - 1) (λ x. elements 3 (points_layout n x next)) at at before b0 x b1 refl x_is
 
@@ -46,7 +47,8 @@ pub y0_read : (above at n x y0 : ℕ) (next : Format CertKind) (before : List En
     ≡ read certs (elements 2 (points_layout n x next)) (at + 16) (before ++ Number x ∷ Number y0 ∷ []) b2
 y0_read above at n x y0 next before b0 b1 b2 x_is y0_is =
     x_read above at n x next before b0 b1 x_is
-    ∙ read-number_behind certs EightBytes Range 0 (MODULUS - 1) (λ _. elements 2 (points_layout n x next)) (at + 8) (at + 16) before (Number x ∷ [])
+    ∙ read-number_behind certs EightBytes Range 0 (MODULUS - 1) (λ _. elements 2 (points_layout n x next)) (at + 8) (at + 16) before
+    (Number x ∷ [])
     b1 y0 b2 y0_is (omega arith)
 
 pub y1_read : (above at n x y0 y1 : ℕ) (next : Format CertKind) (before : List Entry) (b0 b1 b2 b3 : List ℕ)
@@ -87,22 +89,28 @@ one_left : (n i : ℕ) → i < n → n - i ≡ suc (n - (i + 1))
 one_left n i less = omega arith
 
 -- reading so many points is reading the rest of them, where this many are left and this point comes next
-pub points_next : (n i above at : ℕ) (next : Format CertKind) (before : List Entry) (points : List Point) (bytes : List ℕ) (start : Answer) → i < n
+pub points_next : (n i above at : ℕ) (next : Format CertKind) (before : List Entry) (points : List Point) (bytes : List ℕ) (start : Answer)
+    → i < n
     → start ≡ read certs (points_layout (n - i) above next) (at + 32 * i) (before ++ point_entries points) bytes
     → start ≡ read certs (points_layout (suc (n - (i + 1))) above next) (at + 32 * i) (before ++ point_entries points) bytes
 points_next n i above at next before points bytes start less is =
     is ∙ ap (λ (m : ℕ). read certs (points_layout m above next) (at + 32 * i) (before ++ point_entries points) bytes) (one_left n i less)
 
-pub points_more : (n i at : ℕ) (next : Format CertKind) (before : List Entry) (points : List Point) (p : Point) (bytes : List ℕ) (start : Answer)
-    → start ≡ read certs (points_layout (n - (i + 1)) p.x next) (at + 32 * i + 32) (before ++ point_entries points ++ entries_of_point p) bytes
+pub points_more : (n i at : ℕ) (next : Format CertKind) (before : List Entry) (points : List Point) (p : Point) (bytes : List ℕ)
+    (start : Answer)
+    → start ≡ read certs (points_layout (n - (i + 1)) p.x next) (at + 32 * i + 32)
+    (before ++ point_entries points ++ entries_of_point p) bytes
     → start ≡ read certs (points_layout (n - (i + 1)) p.x next) (at + 32 * (i + 1)) (before ++ point_entries (points ++ p ∷ [])) bytes
 points_more n i at next before points p bytes start is =
-    is ∙ ap (λ (a : ℕ). read certs (points_layout (n - (i + 1)) p.x next) a (before ++ point_entries points ++ entries_of_point p) bytes) (omega arith)
+    is ∙ ap (λ (a : ℕ). read certs (points_layout (n - (i + 1)) p.x next) a (before ++ point_entries points ++ entries_of_point p) bytes)
+    (omega arith)
     ∙ ap (λ (es : List Entry). read certs (points_layout (n - (i + 1)) p.x next) (at + 32 * (i + 1)) es bytes)
-    (append_assoc before (point_entries points) (entries_of_point p) ∙ ap (λ (l : List Entry). before ++ l) (sym (point_entries-push points p)))
+    (append_assoc before (point_entries points) (entries_of_point p)
+    ∙ ap (λ (l : List Entry). before ++ l) (sym (point_entries-push points p)))
 
 -- and none is left at the end
-pub points_all : (n i above at : ℕ) (next : Format CertKind) (before : List Entry) (points : List Point) (bytes : List ℕ) (start : Answer) → i ≡ n
+pub points_all : (n i above at : ℕ) (next : Format CertKind) (before : List Entry) (points : List Point) (bytes : List ℕ) (start : Answer)
+    → i ≡ n
     → start ≡ read certs (points_layout (n - i) above next) (at + 32 * i) (before ++ point_entries points) bytes
     → start ≡ read certs next (at + 32 * n) (before ++ point_entries points) bytes
 points_all n i above at next before points bytes start all is =
@@ -123,7 +131,8 @@ pub numbers_more : (n i at : ℕ) (before : List Entry) (numbers : List ℕ) (x 
 numbers_more n i at before numbers x bytes start is =
     is ∙ ap (λ (a : ℕ). read certs (numbers_layout (n - (i + 1))) a (before ++ number_entries numbers ++ Number x ∷ []) bytes) (omega arith)
     ∙ ap (λ (es : List Entry). read certs (numbers_layout (n - (i + 1))) (at + 8 * (i + 1)) es bytes)
-    (append_assoc before (number_entries numbers) (Number x ∷ []) ∙ ap (λ (l : List Entry). before ++ l) (sym (number_entries-push numbers x)))
+    (append_assoc before (number_entries numbers) (Number x ∷ [])
+    ∙ ap (λ (l : List Entry). before ++ l) (sym (number_entries-push numbers x)))
 
 pub numbers_all : (n i at : ℕ) (before : List Entry) (numbers : List ℕ) (bytes : List ℕ) (start : Answer) → i ≡ n
     → start ≡ read certs (numbers_layout (n - i)) (at + 8 * i) (before ++ number_entries numbers) bytes
@@ -148,18 +157,21 @@ pub number_bytes-push : (numbers : List ℕ) (n : ℕ) → number_bytes (numbers
 number_bytes-push [] n = refl
 number_bytes-push (m ∷ ms) n = ap (λ (l : List ℕ). to_be_bytes w64 m ++ l) (number_bytes-push ms n)
 
-pub point_bytes-more : (points : List Point) (i : ℕ) (p : Point) → i < length points → p ≡ get_or points i p → point_bytes (take (i + 1) points) ≡ point_bytes (take i points) ++ bytes_of_point p
+pub point_bytes-more : (points : List Point) (i : ℕ) (p : Point) → i < length points → p ≡ get_or points i p
+    → point_bytes (take (i + 1) points) ≡ point_bytes (take i points) ++ bytes_of_point p
 point_bytes-more points i p within is =
     ap point_bytes (take_more points i p within) ∙ point_bytes-push (take i points) (get_or points i p)
     ∙ ap (λ (q : Point). point_bytes (take i points) ++ bytes_of_point q) (sym is)
 
-pub number_bytes-more : (numbers : List ℕ) (i n : ℕ) → i < length numbers → n ≡ get_or numbers i n → number_bytes (take (i + 1) numbers) ≡ number_bytes (take i numbers) ++ to_be_bytes w64 n
+pub number_bytes-more : (numbers : List ℕ) (i n : ℕ) → i < length numbers → n ≡ get_or numbers i n → number_bytes (take (i + 1) numbers)
+    ≡ number_bytes (take i numbers) ++ to_be_bytes w64 n
 number_bytes-more numbers i n within is =
     ap number_bytes (take_more numbers i n within) ∙ number_bytes-push (take i numbers) (get_or numbers i n)
     ∙ ap (λ (m : ℕ). number_bytes (take i numbers) ++ to_be_bytes w64 m) (sym is)
 
 -- points and numbers are spelt as their bytes
-pub spelling-points : (points : List Point) (previous : ℕ) (rest : Format CertKind) (tail : List Entry) → spelling (points_layout (length points) previous rest) (point_entries points ++ tail) ≡ point_bytes points ++ spelling rest tail
+pub spelling-points : (points : List Point) (previous : ℕ) (rest : Format CertKind) (tail : List Entry)
+    → spelling (points_layout (length points) previous rest) (point_entries points ++ tail) ≡ point_bytes points ++ spelling rest tail
 spelling-points [] previous rest tail = refl
 spelling-points (p ∷ ps) previous rest tail =
     ap (λ (l : List ℕ). bytes_of_point p ++ l) (spelling-points ps p.x rest tail)

@@ -26,11 +26,14 @@ at_exit P (Ok x) e is holds = tt
 at_exit P (Err error) e is holds = subst P (sym is) holds
 
 -- the fault of reading the fields is what is answered
-pub bad_read : (bytes : List ℕ) (r : Result ReadCert CertError) (f : CertFault) → AreBytes bytes → IsErrAnd r (λ e. e ≡ Bad f.kind f.at) → read certs certificate 0 [] bytes ≡ Err f → Answers r (reading bytes)
+pub bad_read : (bytes : List ℕ) (r : Result ReadCert CertError) (f : CertFault) → AreBytes bytes → IsErrAnd r (λ e. e ≡ Bad f.kind f.at)
+    → read certs certificate 0 [] bytes ≡ Err f → Answers r (reading bytes)
 bad_read bytes (Ok x) f are_bytes is faulty = absurd is
-bad_read bytes (Err e) f are_bytes is faulty = subst (λ (k : CertError). Answers (Err k) (reading bytes)) (sym is) (reading-fault bytes f (fault_read bytes f are_bytes faulty))
+bad_read bytes (Err e) f are_bytes is faulty = subst (λ (k : CertError). Answers (Err k) (reading bytes)) (sym is)
+    (reading-fault bytes f (fault_read bytes f are_bytes faulty))
 
-pub bad_fault : (bytes : List ℕ) (r : Result ReadCert CertError) (f : CertFault) → AreBytes bytes → IsErrAnd r (λ e. e ≡ Bad f.kind f.at) → read certs certificate 0 [] bytes ≡ Err f → IfErr r (IsFaultOf bytes)
+pub bad_fault : (bytes : List ℕ) (r : Result ReadCert CertError) (f : CertFault) → AreBytes bytes → IsErrAnd r (λ e. e ≡ Bad f.kind f.at)
+    → read certs certificate 0 [] bytes ≡ Err f → IfErr r (IsFaultOf bytes)
 bad_fault bytes r f are_bytes is faulty = at_exit (IsFaultOf bytes) r (Bad f.kind f.at) is (fault_read bytes f are_bytes faulty)
 
 -- the certificate of a front, points and numbers
@@ -38,15 +41,20 @@ abbrev pub cert_of : Front → List Point → List ℕ → Cert
 cert_of f points numbers = record { level = f.start.level; epoch = f.start.epoch; parent = f.parent.now; head = head_of_front f; points = points; numbers = numbers }
 
 -- what was read in three parts are the entries of a certificate
-pub whole_walk : (bytes rest behind : List ℕ) (f : Front) (at m : ℕ) (points : List Point) (numbers : List ℕ) → length points ≡ f.points → m ≡ 3 * f.start.k
-    → read certs certificate 0 [] bytes ≡ read certs (points_layout f.points 0 (numbers_layout (3 * f.start.k))) at (entries_of_front f) rest
-    → read certs (points_layout f.points 0 (numbers_layout (3 * f.start.k))) at (entries_of_front f) rest ≡ read certs (numbers_layout (3 * f.start.k)) (at + 32 * f.points) (entries_of_front f ++ point_entries points) behind
-    → read certs (numbers_layout m) (at + 32 * f.points) (entries_of_front f ++ point_entries points) behind ≡ Ok (entries_of_front f ++ point_entries points ++ number_entries numbers, at + 32 * f.points + 8 * m)
+pub whole_walk : (bytes rest behind : List ℕ) (f : Front) (at m : ℕ) (points : List Point) (numbers : List ℕ) → length points ≡ f.points → m
+    ≡ 3 * f.start.k
+    → read certs certificate 0 [] bytes
+    ≡ read certs (points_layout f.points 0 (numbers_layout (3 * f.start.k))) at (entries_of_front f) rest
+    → read certs (points_layout f.points 0 (numbers_layout (3 * f.start.k))) at (entries_of_front f) rest
+    ≡ read certs (numbers_layout (3 * f.start.k)) (at + 32 * f.points) (entries_of_front f ++ point_entries points) behind
+    → read certs (numbers_layout m) (at + 32 * f.points) (entries_of_front f ++ point_entries points) behind
+    ≡ Ok (entries_of_front f ++ point_entries points ++ number_entries numbers, at + 32 * f.points + 8 * m)
     → read certs certificate 0 [] bytes ≡ Ok (entries (cert_of f points numbers), at + 32 * f.points + 8 * m)
 whole_walk bytes rest behind f at m points numbers many three first second third =
     let used : ℕ = at + 32 * f.points + 8 * m in
     let front : ℕ → List Entry = λ n.
-    Number CERT_MAGIC ∷ Number CERT_FORMAT ∷ Number (version_number f.start.version) ∷ Number f.start.level ∷ Number f.start.epoch ∷ Number f.start.k
+    Number CERT_MAGIC ∷ Number CERT_FORMAT ∷ Number
+    (version_number f.start.version) ∷ Number f.start.level ∷ Number f.start.epoch ∷ Number f.start.k
     ∷ Bytes f.parent.now ∷ Bytes f.tag.now ∷ Bytes f.check.now ∷ Number (length f.boxed.now) ∷ Bytes f.boxed.now ∷ Number n ∷ [] in
     first ∙ second
     ∙ ap (λ (n : ℕ). read certs (numbers_layout n) (at + 32 * f.points) (entries_of_front f ++ point_entries points) behind) (sym three)

@@ -11,34 +11,27 @@ use Rattle.report_frame.specs.Versions.{version_number, version_of, max_level, m
 use Rattle.byte_format.specs.Format.{After, IsEnd, spelling}
 use Rattle.report_frame.specs.Frame.{Fields, IsFrame, FaultAt, entries, frame, sealed_part, sealed_entries}
 use Rattle.byte_format.specs.Reading.{read}
+use Rattle.byte_format.proofs.Answered.{Found, Failed, good_exactly, bad_exactly}
 use Rattle.byte_format.proofs.Spelt.{read-whole, read-trailing, spelling-last}
 use Rattle.report_frame.specs.declared.fault.FaultKind.TheVariants.{Trailing}
 use Rattle.report_frame.specs.Reading.{frames, decoded}
 use Rattle.report_frame.specs.Laws.{InRange, IsOneFrame, HasOneFault}
 use Rattle.report_frame.proofs.VersionFacts.{version_of_number, number_low, number_high, frame_within}
-use Rattle.report_frame.proofs.Frames.{frame_is_sound, decoded-frame, decoded-fault, decodes_to, ToReport, ToFault}
+use Rattle.report_frame.proofs.Frames.{frame_is_sound, decoded-frame, decoded-fault, decodes_to}
 
 -- ---- decoding
 
 -- bytes decode to a report exactly where they are its frame
 pub decoded_frame : (bytes : List ℕ) (r : Fields) → AreBytes bytes → (decoded bytes ≡ Ok r) ↔ IsFrame r bytes
-decoded_frame bytes r are_bytes = (
-  λ is. elim (decodes_to bytes are_bytes) [
-    | ToReport q frame_of_q is_q ↦ let e : q ≡ r = cc in subst (λ (f : Fields). IsFrame f bytes) e frame_of_q
-    | ToFault fault fault_at is_fault ↦ absurd cc
-  ],
-  λ frame_of_r. decoded-frame r bytes frame_of_r,
-)
+decoded_frame bytes r are_bytes =
+    good_exactly (λ q. IsFrame q bytes) (λ f. FaultAt bytes f.kind f.at) (decoded bytes) (decodes_to bytes are_bytes)
+    (λ q of_q. decoded-frame q bytes of_q) r
 
 -- and to a fault exactly where it is theirs
 pub decoded_fault : (bytes : List ℕ) (fault : Fault) → AreBytes bytes → (decoded bytes ≡ Err fault) ↔ FaultAt bytes fault.kind fault.at
-decoded_fault bytes fault are_bytes = (
-  λ is. elim (decodes_to bytes are_bytes) [
-    | ToReport q frame_of_q is_q ↦ absurd cc
-    | ToFault other fault_at is_fault ↦ let e : other ≡ fault = cc in subst (λ (f : Fault). FaultAt bytes f.kind f.at) e fault_at
-  ],
-  λ fault_at. decoded-fault bytes fault.kind fault.at fault_at,
-)
+decoded_fault bytes fault are_bytes =
+    bad_exactly (λ q. IsFrame q bytes) (λ f. FaultAt bytes f.kind f.at) (decoded bytes) (decodes_to bytes are_bytes)
+    (λ f at_f. decoded-fault bytes f.kind f.at at_f) fault
 
 -- ---- one report, one spelling, one fault
 
@@ -61,13 +54,13 @@ no_fault_of_frame r bytes f of_r at_f = let a = decoded-frame r bytes of_r in le
 -- bytes are the frame of one report, or have one fault
 pub frame_or_fault : (bytes : List ℕ) → AreBytes bytes → IsOneFrame bytes ⊎ HasOneFault bytes
 frame_or_fault bytes are_bytes = elim (decodes_to bytes are_bytes) [
-  | ToReport r of_r is ↦ inl (record {
+  | Found r of_r is ↦ inl (record {
     report = r;
     is_frame = of_r;
     only = λ q of_q. one_report q r bytes of_q of_r;
     no_fault = λ f at_f. no_fault_of_frame r bytes f of_r at_f;
   })
-  | ToFault fault at_fault is ↦ inr (record {
+  | Failed fault at_fault is ↦ inr (record {
     fault = fault;
     is_fault = at_fault;
     only = λ f at_f. one_fault bytes f fault at_f at_fault;
@@ -136,13 +129,16 @@ pub frame_length : (r : Fields) (bytes : List ℕ) → IsFrame r bytes → lengt
 frame_length r bytes of_r = ap length of_r.spelt ∙ spelling_length r (in_range r bytes of_r)
 
 -- a report in range has a frame, unless that is too long
-pub has_frame : (r : Fields) → InRange r → FIXED_BYTES + length r.boxed + length r.body ≤ max_frame r.version → IsFrame r (spelling frame (entries r))
+pub has_frame : (r : Fields) → InRange r → FIXED_BYTES + length r.boxed + length r.body ≤ max_frame r.version
+    → IsFrame r (spelling frame (entries r))
 has_frame r range few =
     let version = sym (version_of_number r.version) in
     let number_is_low = number_low r.version in
     let number_is_high = number_high r.version in
-    let level : r.level ≤ max_level (version_of (version_number r.version)) = subst (λ (v : Version). r.level ≤ max_level v) version range.level in
-    let k : r.k ≤ max_threshold (version_of (version_number r.version)) = subst (λ (v : Version). r.k ≤ max_threshold v) version range.k_high in
+    let level : r.level ≤ max_level (version_of (version_number r.version)) =
+    subst (λ (v : Version). r.level ≤ max_level v) version range.level in
+    let k : r.k ≤ max_threshold (version_of (version_number r.version)) =
+    subst (λ (v : Version). r.k ≤ max_threshold v) version range.k_high in
     let epoch : r.epoch ≤ 2 ^ 32 - 1 = omega (arith, range.epoch) in
     let x : r.x ≤ MODULUS - 1 = omega (arith, range.x_high) in
     let y0 : r.y0 ≤ MODULUS - 1 = omega (arith, range.y0) in
@@ -156,7 +152,8 @@ pub sealed_then_seal : (r : Fields) (bytes : List ℕ) → IsFrame r bytes → b
 sealed_then_seal r bytes of_r = of_r.spelt ∙ spelling-last frame (sealed_entries r) r.seal (IsEnd (Some Trailing)) of_r.range
 
 -- so both are its frame
-pub has_sealed_frame : (r : Fields) → InRange r → FIXED_BYTES + length r.boxed + length r.body ≤ max_frame r.version → IsFrame r (sealed_part r ++ r.seal)
+pub has_sealed_frame : (r : Fields) → InRange r → FIXED_BYTES + length r.boxed + length r.body ≤ max_frame r.version
+    → IsFrame r (sealed_part r ++ r.seal)
 has_sealed_frame r range few =
     let of_r = has_frame r range few in
     subst (IsFrame r) (sealed_then_seal r (spelling frame (entries r)) of_r) of_r
@@ -166,5 +163,6 @@ pub sealed_part_of_frame : (r : Fields) (bytes : List ℕ) → IsFrame r bytes �
 sealed_part_of_frame r bytes of_r =
     let parts = sealed_then_seal r bytes of_r in
     let range = in_range r bytes of_r in
-    let size : length (sealed_part r) ≡ length bytes - SEAL_BYTES = omega (arith, ap length parts, length-append (sealed_part r) r.seal, range.seal) in
+    let size : length (sealed_part r) ≡ length bytes - SEAL_BYTES =
+    omega (arith, ap length parts, length-append (sealed_part r) r.seal, range.seal) in
     ap (take (length bytes - SEAL_BYTES)) parts ∙ take_at (sealed_part r) r.seal (length bytes - SEAL_BYTES) size

@@ -13,6 +13,7 @@ use Rattle.byte_format.specs.Format.Entry.{Number, Bytes}
 use Rattle.report_frame.specs.Frame.{Fields, IsFrame, FaultAt, entries, back, frame}
 use Rattle.byte_format.specs.Reading.{◌>>=◌, read}
 use Rattle.byte_format.proofs.FirstEntry.{number_first, bytes_first, nothing_first}
+use Rattle.byte_format.proofs.Answered.{Answered, Found, Failed}
 use Rattle.byte_format.proofs.Found.{found, Whole, Wrong}
 use Rattle.byte_format.proofs.Spelt.{IsSound, read-whole, read-wrong}
 use Rattle.report_frame.specs.Reading.{frames, fields_from, passed_limit, decoded_under, decoded}
@@ -88,11 +89,13 @@ whole_entries end es whole =
 
 -- ---- decoding
 
-pub decoded-long : (bytes : List ℕ) (limit : ℕ) → passed_limit bytes ≡ Some limit → decoded bytes ≡ Err (record { kind = TooLong; at = limit })
+pub decoded-long : (bytes : List ℕ) (limit : ℕ) → passed_limit bytes ≡ Some limit → decoded bytes
+    ≡ Err (record { kind = TooLong; at = limit })
 unfolding decoded
 decoded-long bytes limit is = ap (λ (l : Option ℕ). decoded_under l bytes) is
 
-pub decoded-short : (bytes : List ℕ) → passed_limit bytes ≡ None → decoded bytes ≡ (read frames frame 0 [] bytes >>= λ es. Ok (fields_from es))
+pub decoded-short : (bytes : List ℕ) → passed_limit bytes ≡ None → decoded bytes
+    ≡ (read frames frame 0 [] bytes >>= λ es. Ok (fields_from es))
 unfolding decoded
 decoded-short bytes is = ap (λ (l : Option ℕ). decoded_under l bytes) is
 
@@ -115,7 +118,8 @@ from_front : (n : ℕ) → 0 + n ≡ n
 from_front n = omega arith
 
 -- and bytes with a fault to it
-pub decoded-fault : (bytes : List ℕ) (kind : FaultKind) (at : ℕ) → FaultAt bytes kind at → decoded bytes ≡ Err (record { kind = kind; at = at })
+pub decoded-fault : (bytes : List ℕ) (kind : FaultKind) (at : ℕ) → FaultAt bytes kind at → decoded bytes
+    ≡ Err (record { kind = kind; at = at })
 decoded-fault bytes kind at fault = elim fault [
   | inl long ↦ decoded-long bytes at (passes bytes at long.1) ∙ ap (λ (k : FaultKind). Err (record { kind = k; at = at })) (sym long.0)
   | inr wrong ↦
@@ -125,29 +129,26 @@ decoded-fault bytes kind at fault = elim fault [
       ∙ ap (λ (p : ℕ). Err (record { kind = kind; at = p })) (from_front _ ∙ sym wrong.1.3)
 ]
 
--- what bytes decode to
-pub data DecodesTo (bytes : List ℕ) : Type 0 where
-  ToReport : (r : Fields) → IsFrame r bytes → decoded bytes ≡ Ok r → DecodesTo bytes
-  ToFault : (fault : Fault) → FaultAt bytes fault.kind fault.at → decoded bytes ≡ Err fault → DecodesTo bytes
-
-pub decodes_to : (bytes : List ℕ) → AreBytes bytes → DecodesTo bytes
+-- what bytes decode to holds of them
+pub decodes_to : (bytes : List ℕ) → AreBytes bytes → Answered (λ r. IsFrame r bytes) (λ f. FaultAt bytes f.kind f.at) (decoded bytes)
 decodes_to bytes are_bytes = elim (limit_step bytes) [
-  | Passes limit long is ↦ ToFault (record { kind = TooLong; at = limit }) (inl (refl, long)) (decoded-long bytes limit is)
+  | Passes limit long is ↦ Failed (record { kind = TooLong; at = limit }) (inl (refl, long)) (decoded-long bytes limit is)
   | Keeps short is ↦ elim (found frames frame 0 [] bytes are_bytes) [
     | Whole es rest end place after may parts place_is is ↦
         let whole = whole_entries end es after in
         let nothing : rest ≡ [] = subst (λ (e : Option FaultKind). MayFollow e rest) whole.ends may in
         let spelt : bytes ≡ spelling frame (entries whole.report) =
-        parts ∙ ap₂ (λ (l : List Entry) (r : List ℕ). spelling frame l ++ r) whole.is nothing ∙ append-nil (spelling frame (entries whole.report)) in
+        parts ∙ ap₂ (λ (l : List Entry) (r : List ℕ). spelling frame l ++ r) whole.is nothing
+        ∙ append-nil (spelling frame (entries whole.report)) in
         let frame_of_report : IsFrame whole.report bytes = record {
           range = subst (λ (e : Option FaultKind). After frame (entries whole.report) (IsEnd e)) whole.ends
               (subst (λ (l : List Entry). After frame l (IsEnd end)) whole.is after);
           spelt = spelt;
           short = short_enough whole.report bytes spelt short;
         } in
-        ToReport whole.report frame_of_report (decoded-frame whole.report bytes frame_of_report)
+        Found whole.report frame_of_report (decoded-frame whole.report bytes frame_of_report)
     | Wrong es rest kind place after parts place_is is ↦
         let fault : FaultAt bytes kind place = inr (short, (es, rest, parts, place_is ∙ from_front _, after)) in
-        ToFault (record { kind = kind; at = place }) fault (decoded-fault bytes kind place fault)
+        Failed (record { kind = kind; at = place }) fault (decoded-fault bytes kind place fault)
   ]
 ]

@@ -26,10 +26,19 @@ abbrev answer : Bool → Bool → Bool → Option ℕ
 answer over_two over_one one = cond over_two (Some MAX_FRAME_TWO) (cond (over_one && one) (Some MAX_FRAME_ONE) None)
 
 -- bytes that are too long for version 1 alone pass its limit where they begin as it does
-limit_above : (bytes : List ℕ) → MAX_FRAME_ONE < length bytes → length bytes ≤ MAX_FRAME_TWO → (b : Bool) → begins_as_one bytes ≡ b → passed_limit bytes ≡ answer false true b → LimitStep bytes
-limit_above bytes above within true begins is = Passes MAX_FRAME_ONE (inr (above, within, sym ((bytes_eq-Decides (spelling frame (Number MAGIC ∷ Number (version_number One) ∷ [])) (take 3 bytes)).0 begins), refl)) is
+limit_above : (bytes : List ℕ) → MAX_FRAME_ONE < length bytes → length bytes ≤ MAX_FRAME_TWO → (b : Bool) → begins_as_one bytes ≡ b
+    → passed_limit bytes ≡ answer false true b → LimitStep bytes
+limit_above bytes above within true begins is = Passes MAX_FRAME_ONE
+    (inr (
+      above,
+      within,
+      sym ((bytes_eq-Decides (spelling frame (Number MAGIC ∷ Number (version_number One) ∷ []))
+          (take 3 bytes)).0 begins),
+      refl,
+    )) is
 limit_above bytes above within false begins is =
-    let no_one : BeginsAsOne bytes → ⊥ = λ one. let yes = (bytes_eq-Decides (spelling frame (Number MAGIC ∷ Number (version_number One) ∷ [])) (take 3 bytes)).1 (sym one) in absurd cc in
+    let no_one : BeginsAsOne bytes → ⊥ = λ one. let yes =
+    (bytes_eq-Decides (spelling frame (Number MAGIC ∷ Number (version_number One) ∷ [])) (take 3 bytes)).1 (sym one) in absurd cc in
     Keeps (λ limit long. elim long [ inl two ↦ omega (arith, two.0, within) | inr one ↦ no_one one.2 ]) is
 
 pub limit_step : (bytes : List ℕ) → LimitStep bytes
@@ -68,7 +77,8 @@ keeps bytes short = elim (limit_step bytes) [
 -- ---- the length of a frame
 
 -- what begins as version 1 does is of no other version
-is_one : (v : Version) (bytes more : List ℕ) → bytes ≡ to_be_bytes w16 MAGIC ++ (to_be_bytes w8 (version_number v) ++ more) → BeginsAsOne bytes → v ≡ One
+is_one : (v : Version) (bytes more : List ℕ) → bytes ≡ to_be_bytes w16 MAGIC ++ (to_be_bytes w8 (version_number v) ++ more)
+    → BeginsAsOne bytes → v ≡ One
 is_one One bytes more is begins = refl
 is_one Two bytes more is begins = absurd (omega (arith, ap (λ (l : List ℕ). get_or l 2 0) (sym (ap (take 3) is) ∙ begins)))
 
@@ -81,7 +91,8 @@ frame_is_short r bytes of_r limit (inr one) =
     omega (arith, short, one.0)
 
 -- the version decides which limit counts
-short_at : (v : Version) (bytes more : List ℕ) → bytes ≡ to_be_bytes w16 MAGIC ++ (to_be_bytes w8 (version_number v) ++ more) → ((limit : ℕ) → IsTooLong bytes limit → ⊥) → length bytes ≤ max_frame v
+short_at : (v : Version) (bytes more : List ℕ) → bytes ≡ to_be_bytes w16 MAGIC ++ (to_be_bytes w8 (version_number v) ++ more)
+    → ((limit : ℕ) → IsTooLong bytes limit → ⊥) → length bytes ≤ max_frame v
 short_at One bytes more is short = elim (cases_lt MAX_FRAME_ONE (length bytes)) [
   | inl above ↦ elim (cases_lt MAX_FRAME_TWO (length bytes)) [
     | inl over ↦ absurd (short MAX_FRAME_TWO (inl (over, refl)))
@@ -95,5 +106,6 @@ short_at Two bytes more is short = elim (cases_lt MAX_FRAME_TWO (length bytes)) 
 ]
 
 -- bytes that are not too long, and spell a report, are no longer than its version allows
-pub short_enough : (r : Fields) (bytes : List ℕ) → bytes ≡ spelling frame (entries r) → ((limit : ℕ) → IsTooLong bytes limit → ⊥) → length bytes ≤ max_frame r.version
+pub short_enough : (r : Fields) (bytes : List ℕ) → bytes ≡ spelling frame (entries r) → ((limit : ℕ) → IsTooLong bytes limit → ⊥)
+    → length bytes ≤ max_frame r.version
 short_enough r bytes spelt short = short_at r.version bytes _ spelt short

@@ -10,7 +10,8 @@ loop-i-preserved c =
     let inv = c.loop-i.invariant in
     let p : Point = c.index-points-i.result in
     let before : ℕ = agreement_of_all c.args.first.now c.args.second.now c.args.third.now (take c.loop-i.i c.args.points.now) in
-    let tested : is_on_all c.args.first.now c.args.second.now c.args.third.now (get_or c.args.points.now c.loop-i.i p) ≡ c.is_on_all.result =
+    let tested : is_on_all c.args.first.now c.args.second.now c.args.third.now (get_or c.args.points.now c.loop-i.i p)
+    ≡ c.is_on_all.result =
     ap (is_on_all c.args.first.now c.args.second.now c.args.third.now) (sym c.index-points-i.is) ∙ sym c.is_on_all.ensures in
     let step = agreement_of_all-more c.args.first.now c.args.second.now c.args.third.now c.args.points.now c.loop-i.i p c.loop-i-test.true in
     elim c.if-is_on_all.branch [

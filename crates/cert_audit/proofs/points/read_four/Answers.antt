@@ -12,12 +12,15 @@ use Rattle.cert_audit.proofs.points.read_four.Goals as goal
 
 -- the fault of four numbers that are read at this place above this number
 abbrev FaultOf : ℕ → ℕ → List ℕ → CertFault → Type 0
-FaultOf above at bytes e = (n : ℕ) (next : Format CertKind) (before : List Entry) → read certs (points_layout (suc n) above next) at before bytes ≡ Err e
+FaultOf above at bytes e = (n : ℕ) (next : Format CertKind) (before : List Entry)
+    → read certs (points_layout (suc n) above next) at before bytes ≡ Err e
 
 pub returns-in_err-x-clause-fault : goal.returns-in_err-x-clause-fault
 returns-in_err-x-clause-fault c =
-    at_exit (FaultOf c.args.above c.args.at c.args.bytes.now) c.from_residual.result c.in_err-x.field-0.0 c.from_residual.ensures.1 (λ n next before.
-    element_fault (c.args.above + 1) c.args.at (λ x. elements 3 (points_layout n x next)) before c.args.bytes.now c.in_err-x.field-0.0 c.in_err-x.ensures.found)
+    at_exit (FaultOf c.args.above c.args.at c.args.bytes.now) c.from_residual.result c.in_err-x.field-0.0 c.from_residual.ensures.1
+    (λ n next before.
+    element_fault (c.args.above + 1) c.args.at
+    (λ x. elements 3 (points_layout n x next)) before c.args.bytes.now c.in_err-x.field-0.0 c.in_err-x.ensures.found)
 
 pub returns-in_err-y0-clause-fault : goal.returns-in_err-y0-clause-fault
 returns-in_err-y0-clause-fault c =
@@ -64,7 +67,10 @@ returns-clause-rest c =
 
 pub returns-clause-long : goal.returns-clause-long
 returns-clause-long c =
-    let first : length c.in_ok-x.rest.now + 8 ≡ length c.args.bytes.now = omega (arith, ap length c.in_ok-x.ensures.rest, length-drop 8 c.args.bytes.now, c.in_ok-x.ensures.long) in
-    let second : length c.in_ok-y0.rest.now + 8 ≡ length c.in_ok-x.rest.now = omega (arith, ap length c.in_ok-y0.ensures.rest, length-drop 8 c.in_ok-x.rest.now, c.in_ok-y0.ensures.long) in
-    let third : length c.in_ok-y1.rest.now + 8 ≡ length c.in_ok-y0.rest.now = omega (arith, ap length c.in_ok-y1.ensures.rest, length-drop 8 c.in_ok-y0.rest.now, c.in_ok-y1.ensures.long) in
+    let first : length c.in_ok-x.rest.now + 8 ≡ length c.args.bytes.now =
+    omega (arith, ap length c.in_ok-x.ensures.rest, length-drop 8 c.args.bytes.now, c.in_ok-x.ensures.long) in
+    let second : length c.in_ok-y0.rest.now + 8 ≡ length c.in_ok-x.rest.now =
+    omega (arith, ap length c.in_ok-y0.ensures.rest, length-drop 8 c.in_ok-x.rest.now, c.in_ok-y0.ensures.long) in
+    let third : length c.in_ok-y1.rest.now + 8 ≡ length c.in_ok-y0.rest.now =
+    omega (arith, ap length c.in_ok-y1.ensures.rest, length-drop 8 c.in_ok-y0.rest.now, c.in_ok-y1.ensures.long) in
     omega (arith, first, second, third, c.in_ok-y2.ensures.long)

@@ -23,8 +23,10 @@ returns-in_err-four-clause-fault c =
     let at : ℕ = c.args.at in
     let points : List Point = c.loop-i.points.items in
     at_exit (FaultOf n at c.args.bytes.now) c.from_residual.result c.in_err-four.field-0.0 c.from_residual.ensures.1 (λ next before.
-    points_next n i c.loop-i.above at next before points c.loop-i.rest.now (read certs (points_layout n 0 next) at before c.args.bytes.now) c.loop-i-test.true (c.loop-i.invariant.walk next before)
-    ∙ ap (λ (a : ℕ). read certs (points_layout (suc (n - (i + 1))) a next) (at + 32 * i) (before ++ point_entries points) c.loop-i.rest.now) (sym c.value.ensures.same)
+    points_next n i c.loop-i.above at next before points c.loop-i.rest.now
+    (read certs (points_layout n 0 next) at before c.args.bytes.now) c.loop-i-test.true (c.loop-i.invariant.walk next before)
+    ∙ ap (λ (a : ℕ). read certs (points_layout (suc (n - (i + 1))) a next) (at + 32 * i) (before ++ point_entries points) c.loop-i.rest.now)
+    (sym c.value.ensures.same)
     ∙ c.in_err-four.ensures.fault (n - (i + 1)) next (before ++ point_entries points))
 
 pub loop-i-preserved : goal.loop-i-preserved
@@ -43,14 +45,19 @@ loop-i-preserved c =
           let here : List Entry = before ++ point_entries points in
           points_more n i at next before points p behind start
           (points_next n i c.loop-i.above at next before points c.loop-i.rest.now start c.loop-i-test.true (inv.walk next before)
-          ∙ ap (λ (a : ℕ). read certs (points_layout (suc (n - (i + 1))) a next) (at + 32 * i) here c.loop-i.rest.now) (sym c.value.ensures.same)
+          ∙ ap (λ (a : ℕ). read certs (points_layout (suc (n - (i + 1))) a next) (at + 32 * i) here c.loop-i.rest.now)
+          (sym c.value.ensures.same)
           ∙ c.in_ok-four.ensures.ok (n - (i + 1)) next here
-          ∙ ap (λ (q : Point). read certs (points_layout (n - (i + 1)) q.x next) (at + 32 * i + 32) (here ++ entries_of_point q) behind) (sym c.point_of-point.ensures))
-          ∙ ap (λ (ps : List Point). read certs (points_layout (n - (i + 1)) p.x next) (at + 32 * (i + 1)) (before ++ point_entries ps) behind) (sym items);
+          ∙ ap (λ (q : Point). read certs (points_layout (n - (i + 1)) q.x next) (at + 32 * i + 32) (here ++ entries_of_point q) behind)
+          (sym c.point_of-point.ensures))
+          ∙ ap (λ (ps : List Point). read certs (points_layout (n - (i + 1)) p.x next) (at + 32 * (i + 1))
+          (before ++ point_entries ps) behind) (sym items);
       many = omega (arith, c.push_reserved.ensures.len, inv.many);
       capacity = c.push_reserved.ensures.capacity ∙ inv.capacity;
-      three = subst (All (λ q. length q.y ≡ 3)) (sym items) (All-push (λ (q : Point). length q.y ≡ 3) points p inv.three (ap (λ (q : Point). length q.y) c.point_of-point.ensures));
-      rest = drop-behind (32 * i) 32 c.args.bytes.now c.loop-i.rest.now behind inv.rest c.in_ok-four.ensures.rest ∙ ap (λ (m : ℕ). drop m c.args.bytes.now) (omega arith);
+      three = subst (All (λ q. length q.y ≡ 3)) (sym items)
+          (All-push (λ (q : Point). length q.y ≡ 3) points p inv.three (ap (λ (q : Point). length q.y) c.point_of-point.ensures));
+      rest = drop-behind (32 * i) 32 c.args.bytes.now c.loop-i.rest.now behind inv.rest c.in_ok-four.ensures.rest
+          ∙ ap (λ (m : ℕ). drop m c.args.bytes.now) (omega arith);
       long = omega (arith, c.in_ok-four.ensures.long, ap length inv.rest, length-drop (32 * i) c.args.bytes.now, inv.long);
     }
 
@@ -60,5 +67,7 @@ returns-clause-ok c next before =
     let i : ℕ = c.loop-i.i in
     let inv = c.loop-i.invariant in
     let all : i ≡ n = omega arith in
-    points_all n i c.loop-i.above c.args.at next before c.loop-i.points.items c.loop-i.rest.now (read certs (points_layout n 0 next) c.args.at before c.args.bytes.now) all (inv.walk next before)
-    ∙ ap (λ (b : List ℕ). read certs next (c.args.at + 32 * n) (before ++ point_entries c.loop-i.points.items) b) (inv.rest ∙ ap (λ (m : ℕ). drop (32 * m) c.args.bytes.now) all)
+    points_all n i c.loop-i.above c.args.at next before c.loop-i.points.items c.loop-i.rest.now
+    (read certs (points_layout n 0 next) c.args.at before c.args.bytes.now) all (inv.walk next before)
+    ∙ ap (λ (b : List ℕ). read certs next (c.args.at + 32 * n) (before ++ point_entries c.loop-i.points.items) b)
+    (inv.rest ∙ ap (λ (m : ℕ). drop (32 * m) c.args.bytes.now) all)

@@ -9,7 +9,8 @@ use Rattle.cert_audit.proofs.points.read_points.Given as goal
 
 abbrev pub invariant-loop-i : goal.invariant-loop-i
 invariant-loop-i l = record {
-  walk : (next : Format CertKind) (before : List Entry) → read certs (points_layout l.n 0 next) l.at before l.bytes ≡ read certs (points_layout (l.n - l.i) l.above next) (l.at + 32 * l.i) (before ++ point_entries l.points.items) l.rest;
+  walk : (next : Format CertKind) (before : List Entry) → read certs (points_layout l.n 0 next) l.at before l.bytes
+      ≡ read certs (points_layout (l.n - l.i) l.above next) (l.at + 32 * l.i) (before ++ point_entries l.points.items) l.rest;
   many : vec_len l.points ≡ l.i;
   capacity : vec_capacity l.points ≡ vec_capacity l.initial.points;
   three : All (λ p. length p.y ≡ 3) l.points.items;

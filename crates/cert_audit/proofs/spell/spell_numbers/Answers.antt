@@ -11,4 +11,5 @@ loop-number-preserved c =
     c.in_ok-spell_number.ensures
     ∙ ap (λ (l : List ℕ). l ++ to_be_bytes w64 n) c.loop-number.invariant
     ∙ append_assoc start (number_bytes (take c.loop-number.number-index c.args.numbers.now)) (to_be_bytes w64 n)
-    ∙ ap (λ (l : List ℕ). start ++ l) (sym (number_bytes-more c.args.numbers.now c.loop-number.number-index n c.loop-number-test.true c.number-item.is))
+    ∙ ap (λ (l : List ℕ). start ++ l)
+    (sym (number_bytes-more c.args.numbers.now c.loop-number.number-index n c.loop-number-test.true c.number-item.is))

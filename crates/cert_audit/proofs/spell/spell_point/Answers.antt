@@ -9,9 +9,12 @@ returns c =
     let point = c.args.point.now in
     let y : List ℕ = point.y in
     let three = c.know_point.ensures.three in
-    let y0 : c.index-point-0.result ≡ slice_index y 0 = at_read y (λ (v : ℕ). c.index-point-0.result ≡ v) 0 c.index-point-0.result (omega arith) c.index-point-0.is refl 0 in
-    let y1 : c.index-point-1.result ≡ slice_index y 1 = at_read y (λ (v : ℕ). c.index-point-1.result ≡ v) 1 c.index-point-1.result (omega arith) c.index-point-1.is refl 0 in
-    let y2 : c.index-point-2.result ≡ slice_index y 2 = at_read y (λ (v : ℕ). c.index-point-2.result ≡ v) 2 c.index-point-2.result (omega arith) c.index-point-2.is refl 0 in
+    let y0 : c.index-point-0.result ≡ slice_index y 0 =
+    at_read y (λ (v : ℕ). c.index-point-0.result ≡ v) 0 c.index-point-0.result (omega arith) c.index-point-0.is refl 0 in
+    let y1 : c.index-point-1.result ≡ slice_index y 1 =
+    at_read y (λ (v : ℕ). c.index-point-1.result ≡ v) 1 c.index-point-1.result (omega arith) c.index-point-1.is refl 0 in
+    let y2 : c.index-point-2.result ≡ slice_index y 2 =
+    at_read y (λ (v : ℕ). c.index-point-2.result ≡ v) 2 c.index-point-2.result (omega arith) c.index-point-2.is refl 0 in
     let start : List ℕ = c.args.bytes.now.items in
     let b1 : List ℕ = c.spell_number.new.bytes.items in
     let b2 : List ℕ = c.spell_number-2.new.bytes.items in

@@ -9,4 +9,5 @@ loop-point-preserved c =
     c.in_ok-spell_point.ensures
     ∙ ap (λ (l : List ℕ). l ++ bytes_of_point c.point-item.result) c.loop-point.invariant
     ∙ append_assoc start (point_bytes (take c.loop-point.point-index c.args.points.now)) (bytes_of_point c.point-item.result)
-    ∙ ap (λ (l : List ℕ). start ++ l) (sym (point_bytes-more c.args.points.now c.loop-point.point-index c.point-item.result c.loop-point-test.true c.point-item.is))
+    ∙ ap (λ (l : List ℕ). start ++ l)
+    (sym (point_bytes-more c.args.points.now c.loop-point.point-index c.point-item.result c.loop-point-test.true c.point-item.is))

@@ -22,7 +22,12 @@ returns c =
     let p5 : List ℕ = p4 ++ to_be_bytes w32 cert.epoch in
     let s1 : b1 ≡ start ++ p1 = c.in_ok-extend_from_slice.ensures.items ∙ ap (λ (l : List ℕ). start ++ l) c.to_be_bytes.ensures in
     let s2 : b2 ≡ start ++ p2 = then_appended start p1 (to_be_bytes w8 CERT_FORMAT) b1 b2 s1 c.in_ok-spell_byte.ensures in
-    let s3 : b3 ≡ start ++ p3 = then_appended start p2 (to_be_bytes w8 (version_number cert.head.version)) b2 b3 s2 (c.in_ok-spell_byte-2.ensures ∙ ap (λ (n : ℕ). b2 ++ to_be_bytes w8 n) c.number.ensures) in
+    let s3 : b3 ≡ start ++ p3 =
+    then_appended start p2 (to_be_bytes w8 (version_number cert.head.version)) b2 b3 s2
+    (c.in_ok-spell_byte-2.ensures ∙ ap (λ (n : ℕ). b2 ++ to_be_bytes w8 n) c.number.ensures) in
     let s4 : b4 ≡ start ++ p4 = then_appended start p3 (to_be_bytes w8 cert.level) b3 b4 s3 c.in_ok-spell_byte-3.ensures in
-    let s5 : b5 ≡ start ++ p5 = then_appended start p4 (to_be_bytes w32 cert.epoch) b4 b5 s4 (c.in_ok-extend_from_slice-2.ensures.items ∙ ap (λ (l : List ℕ). b4 ++ l) c.to_be_bytes-2.ensures) in
-    then_appended start p5 (to_be_bytes w16 cert.head.k) b5 b6 s5 (c.in_ok-extend_from_slice-3.ensures.items ∙ ap (λ (l : List ℕ). b5 ++ l) c.to_be_bytes-3.ensures)
+    let s5 : b5 ≡ start ++ p5 =
+    then_appended start p4 (to_be_bytes w32 cert.epoch) b4 b5 s4
+    (c.in_ok-extend_from_slice-2.ensures.items ∙ ap (λ (l : List ℕ). b4 ++ l) c.to_be_bytes-2.ensures) in
+    then_appended start p5 (to_be_bytes w16 cert.head.k) b5 b6 s5
+    (c.in_ok-extend_from_slice-3.ensures.items ∙ ap (λ (l : List ℕ). b5 ++ l) c.to_be_bytes-3.ensures)

@@ -39,17 +39,22 @@ returns-in-Err-clause-one c = one_given _ (Err c.fault.result) (returns-in-Err-c
 
 pub overflow_sub-bytes : goal.overflow_sub-bytes
 overflow_sub-bytes c =
-    let of_parts = frame_of_parts c.args.bytes.now c.in-Ok.parts (AreBytes-from_fits _ c.type_inv.bytes) (sym c.passed_limit.ensures ∙ c.in_default.is) c.in-Ok.ensures in
+    let of_parts =
+    frame_of_parts c.args.bytes.now c.in-Ok.parts (AreBytes-from_fits _ c.type_inv.bytes)
+    (sym c.passed_limit.ensures ∙ c.in_default.is) c.in-Ok.ensures in
     let size = frame_length _ _ of_parts in
     omega arith
 
 pub invariant_of-result : goal.invariant_of-result
 invariant_of-result c =
-    let of_parts = frame_of_parts c.args.bytes.now c.in-Ok.parts (AreBytes-from_fits _ c.type_inv.bytes) (sym c.passed_limit.ensures ∙ c.in_default.is) c.in-Ok.ensures in
+    let of_parts =
+    frame_of_parts c.args.bytes.now c.in-Ok.parts (AreBytes-from_fits _ c.type_inv.bytes)
+    (sym c.passed_limit.ensures ∙ c.in_default.is) c.in-Ok.ensures in
     record { is_frame = views_frame c.args.bytes.now c.split_at.result.0.now c.in-Ok.parts of_parts c.split_at.ensures.front }
 
 pub returns-clause-found : goal.returns-clause-found
-returns-clause-found c = frame_of_parts c.args.bytes.now c.in-Ok.parts (AreBytes-from_fits _ c.type_inv.bytes) (sym c.passed_limit.ensures ∙ c.in_default.is) c.in-Ok.ensures
+returns-clause-found c = frame_of_parts c.args.bytes.now c.in-Ok.parts (AreBytes-from_fits _ c.type_inv.bytes)
+    (sym c.passed_limit.ensures ∙ c.in_default.is) c.in-Ok.ensures
 
 pub returns-clause-only : goal.returns-clause-only
 returns-clause-only c r of_r = one_report _ _ _ (returns-clause-found c) of_r
