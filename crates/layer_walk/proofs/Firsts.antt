@@ -1,11 +1,8 @@
 -- The rows of level 0 and the refusals of the other records.
 use Rattle.std.proofs.Common.{◌≡◌, ℕ, suc, ◌+◌, ◌<◌, ◌≤◌, List, [], ◌∷◌, ◌++◌, Option, Result, Ok, Err, length, take, map, refl, sym, ap, ◌∙◌, subst, arith, length-append, append-nil}
 use Rattle.std.specs.Prelude.{◌^◌}
-use Rattle.std.specs.List.{AllByRecursion, cons_option}
+use Rattle.std.specs.List.{cons_option}
 use Rattle.std.specs.List.Sorted.{IsStrictlySortedBy}
-use Rattle.std.specs.Ordering.{nat_cmp}
-use Rattle.std.specs.Cmp.{nat_cmp_is}
-use Rattle.std.specs.declared.cmp.Ordering.TheVariants.{Less}
 use Rattle.std.proofs.lemmas.List.{length-map, map-append}
 use Rattle.std.proofs.lemmas.List.Elements.{All-from_recursion, All-map}
 use Rattle.star_io.specs.declared.record.Record.{Record}
@@ -19,9 +16,12 @@ use Rattle.layer_walk.specs.declared.refusal.Why.{Why}
 use Rattle.layer_walk.specs.declared.refusal.Stage.TheVariants.{Outer}
 use Rattle.layer_walk.specs.Rows.{Row}
 use Rattle.layer_walk.specs.Seen.{WalkView}
-use Rattle.layer_walk.specs.Made.{named_row, named, row_cmp, IsLevel}
+use Rattle.layer_walk.specs.Laws.{by_number}
+use Rattle.layer_walk.specs.Levels.{rows_from}
+use Rattle.layer_walk.specs.Made.{named_row, named, IsLevel}
 use Rattle.layer_walk.specs.Outer.{first_row}
 use Rattle.layer_walk.specs.Reveal.{first_frame, no_parent, row_of, outer_of, outer_rows, outer_refusals, some_of}
+use Rattle.layer_walk.proofs.RefusedOnce.{levels_rise}
 use Rattle.layer_walk.specs.Standing.{outermost, StandsFor, level_zero_of}
 
 -- ---- one more record
@@ -122,38 +122,6 @@ few_rows e records =
 pub few_views : (walk : WalkView) (records : List Record) → StandsFor walk records → length walk.rows ≤ walk.taken
 few_views walk records stands = omega (arith, ap length stands.rows, length-map (outer_rows walk.epoch records) outermost, few_rows walk.epoch records, stands.taken)
 
-above : (e i j : ℕ) (records : List Record) → j < i → AllByRecursion (λ (y : RowView). nat_cmp j y.index ≡ Less) (map outermost (some_of (numbered_from i (λ i r. row_of i (first_frame e r)) records)))
-above e i j [] h = tt
-above e i j (r ∷ rs) h =
-    let rest = above e (i + 1) j rs (omega arith) in
-    elim (first_frame e r) as (λ f. AllByRecursion (λ (y : RowView). nat_cmp j y.index ≡ Less) (map outermost (cons_option (row_of i f) (some_of (numbered_from (i + 1) (λ i r. row_of i (first_frame e r)) rs))))) [
-      | Ok frame ↦ (sym (nat_cmp_is j i Less h), rest)
-      | Err why ↦ rest
-    ]
-
-rising : (e i : ℕ) (records : List Record) → IsStrictlySortedBy row_cmp (map outermost (some_of (numbered_from i (λ i r. row_of i (first_frame e r)) records)))
-unfolding IsStrictlySortedBy
-rising e i [] = tt
-rising e i (r ∷ rs) =
-    let rest = rising e (i + 1) rs in
-    elim (first_frame e r) as (λ f. IsStrictlySortedBy row_cmp (map outermost (cons_option (row_of i f) (some_of (numbered_from (i + 1) (λ i r. row_of i (first_frame e r)) rs))))) [
-      | Ok frame ↦ (above e (i + 1) i rs (omega arith), rest)
-      | Err why ↦ rest
-    ]
-
-views_rise : (e : ℕ) (records : List Record) → IsStrictlySortedBy row_cmp (map outermost (outer_rows e records))
-unfolding outer_rows
-views_rise e records = rising e 0 records
-
-pub zero_good : (e : ℕ) (records : List Record) → length records < 2 ^ 32 → IsLevel (level_zero_of e records)
-zero_good e records small = record {
-  parents = All-map (λ (r : RowView). r.parent < 1) outermost (outer_rows e records) (λ k d lt. omega arith);
-  depth = All-from_recursion (λ (p : Parent). length p.path ≡ 0) (no_parent ∷ []) (refl, tt);
-  distinct = λ i j d lt inside. absurd (omega arith);
-  ascending = views_rise e records;
-  few = omega (arith, length-map (outer_rows e records) outermost, few_rows e records);
-}
-
 rows_named : (e i : ℕ) (records : List Record) → map (named_row (no_parent ∷ [])) (map outermost (some_of (numbered_from i (λ i r. row_of i (first_frame e r)) records))) ≡ some_of (numbered_from i (λ i r. row_of i (first_frame e r)) records)
 rows_named e i [] = refl
 rows_named e i (r ∷ rs) =
@@ -168,3 +136,13 @@ rows_named e i (r ∷ rs) =
 pub zero_named : (e : ℕ) (records : List Record) → named (level_zero_of e records) ≡ outer_rows e records
 unfolding outer_rows
 zero_named e records = rows_named e 0 records
+
+pub zero_good : (e : ℕ) (records : List Record) → length records < 2 ^ 32 → IsLevel (level_zero_of e records)
+unfolding rows_from
+zero_good e records small = record {
+  parents = All-map (λ (r : RowView). r.parent < 1) outermost (outer_rows e records) (λ k d lt. omega arith);
+  depth = All-from_recursion (λ (p : Parent). length p.path ≡ 0) (no_parent ∷ []) (refl, tt);
+  distinct = λ i j d lt inside. absurd (omega arith);
+  ascending = subst (IsStrictlySortedBy by_number) (sym (zero_named e records)) (levels_rise e records 0);
+  few = omega (arith, length-map (outer_rows e records) outermost, few_rows e records);
+}

@@ -1,11 +1,10 @@
 -- What each group of a level gives is what its members give, row by row.
 use Rattle.std.proofs.Common.{◌≡◌, ◌≤◌, ◌≢◌, ℕ, ◌+◌, ◌<◌, true, false, cond, not, List, [], ◌∷◌, ◌++◌, Option, Some, length, refl, sym, ap, ◌∙◌, subst, map, filter, arith, All, AllPairs, length-append, get_or}
 use Rattle.std.specs.Prelude.{slice_get}
-use Rattle.std.specs.List.{filter_map, cons_option, AllZip, AllByRecursion}
-use Rattle.std.specs.List.Sorted.{IsPermutation, IsSorted, IsStrictlySortedBy}
+use Rattle.std.specs.List.{filter_map, cons_option, AllZip}
+use Rattle.std.specs.List.Sorted.{IsPermutation, IsSorted}
 use Rattle.std.specs.Option.{option_map}
 use Rattle.std.specs.Ordering.{nat_cmp, is_lt}
-use Rattle.std.specs.declared.cmp.Ordering.TheVariants.{Less}
 use Rattle.std.proofs.lemmas.List.{get_or-map, get_or_append_left, length-map, map-append, map-id}
 use Rattle.std.proofs.lemmas.List.Elements.{All-head, All-tail, All-nil, All-append, All-map, All-weaker, All-filter, filter_map-append, filter_passes}
 use Rattle.std.proofs.lemmas.List.Sorted.{IsPermutation-map}
@@ -267,20 +266,10 @@ first_ones_named parents distinct (x ∷ xs) h =
           | false ↦ ap (λ l. named_row parents y ∷ l) more
         ]
 
--- the rows ascend under their names too
-pub up_named : (parents : List Parent) (rows : List RowView) → IsStrictlySortedBy row_cmp rows → IsStrictlySortedBy (λ (a b : Row). nat_cmp a.index b.index) (map (named_row parents) rows)
-unfolding IsStrictlySortedBy
-up_named parents [] h = tt
-up_named parents (r ∷ rs) h = (others rs h.0, up_named parents rs h.1)
-  where
-    others : (ys : List RowView) → AllByRecursion (λ y. row_cmp r y ≡ Less) ys → AllByRecursion (λ (y : Row). nat_cmp r.index y.index ≡ Less) (map (named_row parents) ys)
-    others [] a = tt
-    others (y ∷ ys) a = (a.0, others ys a.1)
-
 pub some_row : RowView
 some_row = record { index = 0; parent = 0; report = fields_from [] }
 
--- and so does what a sort leaves
+-- the rows ascend under their names too, where they do
 sorted_named : (parents : List Parent) (rows : List RowView) → IsSorted row_cmp rows → IsSorted (λ (a b : Row). nat_cmp a.index b.index) (map (named_row parents) rows)
 sorted_named parents rows h k d low lt =
     let long : length (map (named_row parents) rows) ≡ length rows = length-map rows (named_row parents) in
@@ -305,7 +294,7 @@ module _ (level : Level) (good : IsLevel level) where
       → (made sorted : List X) → made ≡ by_groups f (named level) (first_members (named level)) → IsPermutation made sorted
       → IsSorted (λ (a b : X). nat_cmp (number a) (number b)) sorted → sorted ≡ filter_map f (named level)
   sorted_rows_are number f kept made sorted is moved order =
-      sorted_groups number f kept (named level) made sorted (up_named level.parents level.rows good.ascending) is moved order
+      sorted_groups number f kept (named level) made sorted good.ascending is moved order
 
   pub after_rows : (parents : List Parent) (rows sorted : List RowView) → AreChildren level (first_members (named level)) parents rows
       → IsPermutation rows sorted → IsSorted row_cmp sorted → map (named_row parents) sorted ≡ of_level level next_rows

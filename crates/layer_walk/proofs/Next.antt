@@ -1,9 +1,8 @@
 -- The level after is a level.
-use Rattle.std.proofs.Common.{◌≡◌, ◌≢◌, ℕ, ◌+◌, ◌<◌, ◌≤◌, ◌^◌, List, [], ◌∷◌, length, refl, sym, ap, subst, map, arith, All, AllPairs, Some}
-use Rattle.std.specs.List.{AllByRecursion, slice_get}
+use Rattle.std.proofs.Common.{◌≡◌, ◌≢◌, ℕ, ◌+◌, ◌<◌, ◌≤◌, ◌^◌, List, length, refl, sym, ap, subst, map, arith, All, AllPairs, Some}
+use Rattle.std.specs.List.{slice_get}
 use Rattle.std.specs.List.Sorted.{IsPermutation, IsSorted, IsStrictlySortedBy}
 use Rattle.std.specs.Ordering.{nat_cmp}
-use Rattle.std.specs.declared.cmp.Ordering.TheVariants.{Less}
 use Rattle.std.proofs.lemmas.List.{length-map}
 use Rattle.std.proofs.lemmas.List.Sorted.{All-permutation}
 use Rattle.report_frame.specs.declared.limits.TheConstants.{MAX_LEVEL_TWO}
@@ -22,19 +21,9 @@ use Rattle.layer_walk.specs.Kept.{AreChildren}
 use Rattle.layer_walk.proofs.Fits.{groups_fit, groups_few}
 use Rattle.layer_walk.proofs.Pairs.{group_at, zip_lengths}
 use Rattle.layer_walk.proofs.NextRows.{rising_kept}
-use Rattle.layer_walk.proofs.Making.{after_rows, up_named}
+use Rattle.layer_walk.proofs.Making.{after_rows}
 use Rattle.layer_walk.proofs.HeldRows.{next_from}
 use Rattle.layer_walk.proofs.Paths.{paths_differ, depth_more}
-
--- the rows ascend where they do under their names
-down_named : (parents : List Parent) (rows : List RowView) → IsStrictlySortedBy (λ (a b : Row). nat_cmp a.index b.index) (map (named_row parents) rows) → IsStrictlySortedBy row_cmp rows
-unfolding IsStrictlySortedBy
-down_named parents [] h = tt
-down_named parents (r ∷ rs) h = (others rs h.0, down_named parents rs h.1)
-  where
-    others : (ys : List RowView) → AllByRecursion (λ (y : Row). nat_cmp r.index y.index ≡ Less) (map (named_row parents) ys) → AllByRecursion (λ y. row_cmp r y ≡ Less) ys
-    others [] a = tt
-    others (y ∷ ys) a = (a.0, others ys a.1)
 
 -- the group at a place fits the level
 pub fit_at : (level : Level) (groups : List GroupView) → IsLevel level → level.number ≤ MAX_LEVEL_TWO → groups ≡ groups_of level.rows → (i : ℕ) (g : GroupView) → i < length groups → slice_get groups i ≡ Some g → FitsLevel level g
@@ -73,13 +62,13 @@ module _ (level : Level) (good : IsLevel level) (parents : List Parent) (rows so
       let next = of_level level next_row in
       subst (IsStrictlySortedBy (λ (a b : Row). nat_cmp a.index b.index)) (sym rows_are)
       (rising_kept (λ (r : Row). r.index) next (λ row x is. (next_from level.epoch level.number (named level) row x is).index)
-      (named level) (up_named level.parents level.rows good.ascending))
+      (named level) good.ascending)
 
   pub is_level : IsLevel after
   is_level = record {
     parents = All-permutation (λ (r : RowView). r.parent < length parents) rows sorted moved so.inside;
     depth = subst (All (λ (p : Parent). length p.path ≡ level.number + 1)) (sym parents_are) (depth_more level good);
     distinct = subst (AllPairs (λ (p q : Parent). p.path ≢ q.path)) (sym parents_are) (paths_differ level good);
-    ascending = down_named parents sorted up;
+    ascending = up;
     few = few;
   }

@@ -11,6 +11,7 @@ use Rattle.layer_walk.specs.declared.level.Level.{Level}
 use Rattle.layer_walk.specs.declared.level.Parent.{Parent}
 use Rattle.layer_walk.specs.Rows.{Row}
 use Rattle.layer_walk.specs.Outs.{IsOut, parent_at}
+use Rattle.layer_walk.specs.Laws.{by_number}
 use Rattle.layer_walk.specs.Levels.{next_rows, parents_at}
 
 -- the row that a row of the code stands for: the number of its parent becomes that parent
@@ -38,7 +39,7 @@ pub record IsLevel (level : Level) : Type 0 where
   pub parents : All (λ (row : RowView). row.parent < length level.parents) level.rows
   pub depth : All (λ (p : Parent). length p.path ≡ level.number) level.parents
   pub distinct : AllPairs (λ (p q : Parent). p.path ≢ q.path) level.parents
-  pub ascending : IsStrictlySortedBy row_cmp level.rows
+  pub ascending : IsStrictlySortedBy by_number (named level)
   pub few : length level.rows < 2 ^ 32
 
 -- the group as a parent, where it has this value
