@@ -11,8 +11,11 @@ import time
 import unittest
 
 import support
+import collector
 import frames
+import metrics
 import store
+import writer
 from support import Collector, body_of, configured
 
 PORT = 18_093
@@ -20,9 +23,9 @@ EPOCH = support.epoch_now()
 DATA = support.reports(3_000)
 
 
-def kept(collector):
+def kept(one):
     """How many reports of this week the store has."""
-    return len(list(store.frames(collector.store, EPOCH)))
+    return len(list(store.frames(one.store, EPOCH)))
 
 
 class BadInput(unittest.TestCase):
@@ -83,12 +86,12 @@ class BadInput(unittest.TestCase):
 
 
 class Faults(unittest.TestCase):
-    def complained(self, collector, name, records=()):
+    def complained(self, one, name, records=()):
         """One line that names the cause, and nothing of a report or an address in the log."""
-        lines = [line for line in collector.lines().splitlines() if "not kept" in line]
+        lines = [line for line in one.lines().splitlines() if "not kept" in line]
         self.assertEqual(len([line for line in lines if f"not kept: {name}:" in line]), 1, lines)
-        self.assertEqual(collector.metric(f'star_not_kept_total{{why="{name}"}}') >= 1, True)
-        log = collector.lines()
+        self.assertGreaterEqual(one.metric(f'star_not_kept_total{{why="{name}"}}'), 1)
+        log = one.lines()
         self.assertNotIn("127.0.0.2", log)
         for record in records:
             for part in (record[42:58], record[-32:]):
@@ -184,6 +187,25 @@ class Faults(unittest.TestCase):
     def complained_clock(self, one):
         self.assertIn("not kept: clock: WrongClock : the clock is before epoch", one.lines())
         self.assertIn("not kept: clock: WrongClock : the clock is 364 days after the last heartbeat", one.lines())
+
+
+class Names(unittest.TestCase):
+    def test_each_fault_has_its_name(self):
+        """And every name is one of the metric's labels, made at the start."""
+        for fault, name in ((writer.Busy("x"), "busy"), (writer.WrongClock("x"), "clock"), (store.OtherTerms("x"), "terms"), (TimeoutError(), "late"),
+                            (store.OtherFormat("x"), "format"), (OSError("x"), "disk"), (PermissionError("x"), "disk"), (ValueError("x"), "other"),
+                            (sqlite3.OperationalError("x"), "other")):
+            self.assertEqual(collector.why(fault), name)
+            self.assertIn(name, metrics.WHYS)
+        self.assertLessEqual({*collector.SQLITE_WHYS.values(), *collector.FAULT_WHYS.values()}, set(metrics.WHYS))
+
+    def test_one_line_a_minute_of_each_kind(self):
+        now, lines = [0], []
+        one = collector.Complaints(clock=lambda: now[0], say=lambda form, *words: lines.append((words[0], now[0])))
+        for now[0] in range(0, 125, 5):
+            one.say("locked", ValueError("x"))
+            one.say("late", ValueError("x"))
+        self.assertEqual(lines, [(kind, at) for at in (0, 60, 120) for kind in ("locked", "late")])
 
 
 class Reports(unittest.TestCase):

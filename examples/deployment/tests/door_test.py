@@ -3,6 +3,7 @@
 Only names, addresses and paths of the file are changed. Slow clients, many requests of an address, another origin, networks of IPv6, and a flood of the
 smallest reports by one address for N minutes (10 unless said otherwise), after which the epoch is at most 5 in 100 full. No file has an address.
 """
+import base64
 import contextlib
 import http.client
 import os
@@ -18,7 +19,7 @@ import unittest
 import support
 import store
 
-PORT, COLLECTOR_PORT, PLAIN_PORT = 18_443, 18_095, 18_444
+PORT, COLLECTOR_PORT, PLAIN_PORT, PAGES_PORT = 18_443, 18_095, 18_444, 18_445
 EPOCH = support.epoch_now()
 MAIN = """daemon off; worker_processes 2; worker_rlimit_nofile 20000; pid {0}/pid; error_log {0}/main.log warn; events {{ worker_connections 8192; }}
 http {{ client_body_temp_path {0}/body; proxy_temp_path {0}/proxy; fastcgi_temp_path {0}/f; uwsgi_temp_path {0}/u; scgi_temp_path {0}/s;
@@ -28,17 +29,24 @@ server {{ listen 127.0.0.1:{2}; access_log off; set_real_ip_from 127.0.0.1; real
 MINUTES = 10
 
 
-def adapted(folder, web):
-    """The shipped file with addresses and paths of this test."""
-    with open(os.path.join(support.DEPLOYMENT, "units/nginx.conf"), encoding="utf-8") as file:
+def adapted(name, port, folder, *changes):
+    """A shipped file with addresses and paths of this test; each change has to be one of its text."""
+    with open(os.path.join(support.DEPLOYMENT, "units", name), encoding="utf-8") as file:
         text = file.read()
-    for old, new in (("listen 443 ssl http2;", f"listen 127.0.0.1:{PORT} ssl http2;"), ("listen [::]:443 ssl http2;", ""),
-                     ("server_name telemetry.example;", "server_name localhost;"), ("/etc/letsencrypt/live/telemetry.example/fullchain.pem", folder + "/cert.pem"),
-                     ("/etc/letsencrypt/live/telemetry.example/privkey.pem", folder + "/key.pem"), ("/usr/share/star/web", web),
-                     ("server 127.0.0.1:8080;", f"server 127.0.0.1:{COLLECTOR_PORT};"), ("/var/log/nginx/star.log", folder + "/star.log")):
+    live = "/etc/letsencrypt/live/telemetry.example/"
+    for old, new in (("listen 443 ssl http2;", f"listen 127.0.0.1:{port} ssl http2;"), ("listen [::]:443 ssl http2;", ""),
+                     (live + "fullchain.pem", folder + "/cert.pem"), (live + "privkey.pem", folder + "/key.pem"), *changes):
         assert text.count(old) == 1, old
         text = text.replace(old, new)
-    return MAIN.format(folder, text, PLAIN_PORT)
+    return text
+
+
+def configured(folder, web, pages):
+    """The whole configuration: the door, and the pages behind a login."""
+    door = adapted("nginx.conf", PORT, folder, ("server_name telemetry.example;", "server_name localhost;"), ("/usr/share/star/web", web),
+                   ("server 127.0.0.1:8080;", f"server 127.0.0.1:{COLLECTOR_PORT};"), ("/var/log/nginx/star.log", folder + "/star.log"))
+    login = adapted("pages.conf", PAGES_PORT, folder, ("/var/lib/star/pages", pages), ("auth_basic_user_file /etc/nginx/star.users", "auth_basic_user_file " + folder + "/users"))
+    return MAIN.format(folder, door + login, PLAIN_PORT)
 
 
 class Door(unittest.TestCase):
@@ -54,10 +62,13 @@ class Door(unittest.TestCase):
             file.write("<!doctype html><title>x</title>")
         subprocess.run(["openssl", "req", "-x509", "-newkey", "rsa:2048", "-nodes", "-keyout", cls.folder + "/key.pem", "-out", cls.folder + "/cert.pem",
                         "-days", "2", "-subj", "/CN=localhost"], check=True, stderr=subprocess.DEVNULL)
-        with open(cls.folder + "/conf", "w", encoding="utf-8") as file:
-            file.write(adapted(cls.folder, cls.web))
+        secret = subprocess.run(["openssl", "passwd", "-apr1", "secret"], check=True, stdout=subprocess.PIPE).stdout.decode()
         cls.collector = support.Collector(COLLECTOR_PORT, threads=32).start()
         cls.addClassCleanup(cls.collector.__exit__)
+        os.chmod(cls.collector.work, 0o755)
+        for name, text in (("conf", configured(cls.folder, cls.web, cls.collector.pages)), ("users", "reader:" + secret)):
+            with open(os.path.join(cls.folder, name), "w", encoding="utf-8") as file:
+                file.write(text)
         cls.nginx = subprocess.Popen(["nginx", "-p", cls.folder, "-c", cls.folder + "/conf"])
         cls.addClassCleanup(cls.end)
         cls.context = ssl._create_unverified_context()
@@ -159,6 +170,28 @@ class Door(unittest.TestCase):
             connection.request("GET", "/", headers={"X-Test-Address": address})
             self.assertEqual(connection.getresponse().read().decode(), wanted, address)
             connection.close()
+
+    def test_pages_behind_a_login(self):
+        with open(os.path.join(self.collector.pages, "index.html"), "w", encoding="ascii") as file:
+            file.write("<!doctype html><title>weeks</title>")
+        for user, path, method, wanted in ((None, "/", "GET", 401), ("reader:wrong", "/", "GET", 401), ("reader:secret", "/", "GET", 200),
+                                           ("reader:secret", "/.hidden", "GET", 403), ("reader:secret", "/", "POST", 403)):
+            connection = http.client.HTTPSConnection("127.0.0.1", PAGES_PORT, context=self.context, timeout=30)
+            secret = {"Authorization": "Basic " + base64.b64encode(user.encode()).decode()} if user else {}
+            with contextlib.closing(connection):
+                connection.request(method, path, headers=secret)
+                answer = connection.getresponse()
+                self.assertEqual((answer.status, b"weeks" in answer.read()), (wanted, wanted == 200), (user, path, method))
+            if wanted == 200:
+                self.assertEqual(answer.getheader("X-Frame-Options"), "DENY")
+                self.assertIn("frame-ancestors 'none'", answer.getheader("Content-Security-Policy"))
+
+    def test_a_collector_that_is_away(self):
+        """502, and the same bytes are kept once it is back."""
+        self.collector.stop()
+        self.assertEqual(self.ask("127.0.2.50", body=support.body_of(self.data[60:61]))[0], 502)
+        self.collector.start()
+        self.expect_quick("127.0.2.50", 60)
 
     def test_a_flood(self):
         """One address sends bodies of a hundred of the smallest reports, as often as it is answered."""
