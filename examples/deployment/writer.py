@@ -104,7 +104,8 @@ class Writer:
         if taken[-1] < self._newest:
             raise WrongClock(f"the clock is before epoch {self._newest}, which has reports")
         if self._beat is not None and now > self._beat + SILENCE:
-            raise WrongClock(f"the clock is {(now - self._beat) / weeks.DAY:.0f} days after the last heartbeat; if it is right, touch the lock's file and start again")
+            days = (now - self._beat) / weeks.DAY
+            raise WrongClock(f"the clock is {days:.0f} days after the last heartbeat; if it is right, touch the lock's file and start again")
 
     def _locked(self, patience):
         """The lock's file, locked. A predecessor that is about to end is waited for."""

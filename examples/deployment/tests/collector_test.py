@@ -1,4 +1,4 @@
-"""The collector under gunicorn on loopback: /usr/bin/python3 collector_test.py. It needs gunicorn and python3-prometheus-client, and takes two minutes.
+"""The collector under gunicorn on loopback: /usr/bin/python3 collector_test.py. It needs gunicorn and python3-prometheus-client, and takes a minute.
 
 Bad input, full files, a locked and a broken database, a wrong clock, a full epoch, two collectors, and what each of these writes to the log.
 """
@@ -167,7 +167,8 @@ class Faults(unittest.TestCase):
     def test_a_full_epoch(self):
         with Collector(PORT, text=configured(most=250)) as one:
             texts = [one.post(DATA[at:at + 100])[1] for at in range(0, 400, 100)]
-            self.assertEqual(texts, ["new=100 known=0 full=0 refused=0"] * 2 + ["new=50 known=0 full=50 refused=0", "new=0 known=0 full=100 refused=0"])
+            self.assertEqual(texts[:2], ["new=100 known=0 full=0 refused=0"] * 2)
+            self.assertEqual(texts[2:], ["new=50 known=0 full=50 refused=0", "new=0 known=0 full=100 refused=0"])
             self.assertEqual(one.post(DATA[:100]), (200, "new=0 known=100 full=0 refused=0"))
             self.assertEqual(kept(one), 250)
             self.assertEqual(store.door(one.store, EPOCH), {"full": 150, "known": 100})

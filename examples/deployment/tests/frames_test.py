@@ -1,4 +1,4 @@
-"""Changed frames get at the door the verdict of `check`: frames_test.py PROGRAM [NUMBER]. A frame that is taken is one that the program calls good."""
+"""Changed frames get at the door the verdict of `check`: frames_test.py PROGRAM [NUMBER]. A frame that is taken is one that `check` calls good."""
 import random
 import subprocess
 import sys

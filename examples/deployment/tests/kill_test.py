@@ -82,7 +82,8 @@ def main(kills=20):
         one.kill()
         there = list(store.frames(one.store, epoch))
         assert load.acknowledged <= set(there) and len(there) == len(set(there)) == store.count(one.store, epoch)
-    print(f"kill: {kills} kills, {len(load.acknowledged)} acknowledged, 0 lost, {len(there)} kept, 0 twice, {load.cut} requests cut, answers {load.counts}")
+    print(f"kill: {kills} kills, {len(load.acknowledged)} acknowledged, 0 lost, {len(there)} kept, 0 twice, {load.cut} requests cut, "
+          f"answers {load.counts}")
 
 
 if __name__ == "__main__":

@@ -1,8 +1,8 @@
 """A loss of power, as far as it can be played: /usr/bin/python3 power_test.py [REQUESTS]. It needs gunicorn and strace.
 
-The collector runs under strace. From the log of its system calls the store's files are made again as they may be after a loss of power at many moments: what
-was synced by then, and a random part of the writes since, each whole or cut; once none of them and once all. All reports that were acknowledged
-by that moment have to be in them. The same collector with synchronous=NORMAL has to fail this test.
+The collector runs under strace. From the log of its system calls the store's files are made again as they may be after a loss of power at many
+moments: what was synced by then, and a random part of the writes since, each whole or cut; once none of them and once all. All reports that were
+acknowledged by that moment have to be in them. The same collector with synchronous=NORMAL has to fail this test.
 """
 import os
 import random

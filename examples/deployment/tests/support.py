@@ -79,8 +79,8 @@ class Collector:
         """Starts the collector in a process group of its own."""
         env = {**os.environ, "STAR_STORE": self.store, "STAR_PAGES": self.pages, "STAR_CONFIGURATION": self.configuration,
                "PYTHONDONTWRITEBYTECODE": "1", "PYTHONPATH": os.pathsep.join([DEPLOYMENT, *self._path]), **self._env}
-        command = [*self._before, "/usr/bin/gunicorn", "--worker-class", "gthread", "--workers", "1", "--threads", str(self._threads), "--graceful-timeout",
-                   "15", "--bind", f"127.0.0.1:{self.port}", "--log-level", "warning", self._factory]
+        command = [*self._before, "/usr/bin/gunicorn", "--worker-class", "gthread", "--workers", "1", "--threads", str(self._threads),
+                   "--graceful-timeout", "15", "--bind", f"127.0.0.1:{self.port}", "--log-level", "warning", self._factory]
         with open(self.log, "ab") as log:
             self.run = subprocess.Popen(command, cwd=DEPLOYMENT, env=env, stdout=log, stderr=log, start_new_session=True, preexec_fn=self._limits)
         if wait:

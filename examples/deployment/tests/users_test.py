@@ -1,7 +1,7 @@
 """Collector and report as two users: /usr/bin/python3 users_test.py, as root. Skipped for others.
 
-The report's user reads the store by its group while the collector writes, after it was killed and after it closed its files, and changes nothing there.
-The collector's user can't write the pages.
+The report's user reads the store by its group while the collector writes, after it was killed and after it closed its files, and changes nothing
+there. The collector's user can't write the pages.
 """
 import os
 import signal
@@ -22,7 +22,8 @@ THIS = os.path.abspath(__file__)
 
 def run_as(user, *words, **named):
     """Starts this file as a user of the group, with the umask of the units."""
-    return subprocess.Popen([sys.executable, THIS, "child", *words], user=user, group=GROUP, extra_groups=[], umask=0o027, stdout=subprocess.PIPE, **named)
+    command = [sys.executable, THIS, "child", *words]
+    return subprocess.Popen(command, user=user, group=GROUP, extra_groups=[], umask=0o027, stdout=subprocess.PIPE, **named)
 
 
 @unittest.skipUnless(os.geteuid() == 0, "only root can be two users")
