@@ -9,6 +9,7 @@ pub mod laws;
 mod limb_work;
 mod recovery;
 mod share;
+mod shares;
 
 pub use coefficients::Coefficients;
 pub use key::{Key, key_of, limbs_of};

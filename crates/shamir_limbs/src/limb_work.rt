@@ -6,6 +6,7 @@ ghost use Rattle.gao_decoder.specs.Decoding.{IsDecoded, IsDecodedShort};
 ghost use Rattle.shamir_limbs.specs.KeyLine.{xs_of, ys_of};
 
 use crate::share::Point;
+use crate::shares::Shares;
 use field61::{Fe, know_elements};
 use gao_decoder::{Scratch, decode, decode_short, decode_through};
 use poly61::Poly;
@@ -53,54 +54,42 @@ impl LimbWork {
     }
 
     /// Decodes one limb.
-    pub(crate) fn decode(&mut self, points: &[Point], limb: usize, k: usize, out: &mut Poly) -> bool
+    pub(crate) fn decode(&mut self, shares: &Shares, limb: usize, out: &mut Poly) -> bool
         requires limb { limb < 3 }
-        requires distinct { AreDistinct (xs_of points.now) }
-        requires some { 1 ≤ k }
-        requires threshold { k ≤ length points.now }
-        requires work { length points.now ≤ self.old }
-        requires room { k ≤ length out.old }
+        requires work { length shares.now.points.now ≤ self.old }
+        requires room { shares.now.k ≤ length out.old }
         ensures work { self.new ≡ self.old }
         ensures room { length out.new ≡ length out.old }
         ensures found { IsTrue result →
-            IsDecoded out.new (xs_of points.now) (ys_of points.now limb) k }
-        ensures complete { (f : List ℕ) → IsDecoded f (xs_of points.now) (ys_of points.now limb) k →
+            IsDecoded out.new (xs_of shares.now.points.now) (ys_of shares.now.points.now limb) shares.now.k }
+        ensures complete { (f : List ℕ) → IsDecoded f (xs_of shares.now.points.now) (ys_of shares.now.points.now limb) shares.now.k →
             IsTrue result }
-        ensures only { (f : List ℕ) → IsDecoded f (xs_of points.now) (ys_of points.now limb) k →
+        ensures only { (f : List ℕ) → IsDecoded f (xs_of shares.now.points.now) (ys_of shares.now.points.now limb) shares.now.k →
             SameCoefficients out.new f }
     {
-        fill_xs(&mut self.xs, points);
-        fill_ys(&mut self.ys, points, limb);
-        decode(&mut self.scratch, &self.xs, &self.ys, k, out)
+        fill_xs(&mut self.xs, shares.points);
+        fill_ys(&mut self.ys, shares.points, limb);
+        decode(&mut self.scratch, &self.xs, &self.ys, shares.k, out)
     }
 
     /// Decodes one limb by the first k points alone.
-    pub(crate) fn decode_short(
-        &mut self,
-        points: &[Point],
-        limb: usize,
-        k: usize,
-        out: &mut Poly,
-    ) -> bool
+    pub(crate) fn decode_short(&mut self, shares: &Shares, limb: usize, out: &mut Poly) -> bool
         requires limb { limb < 3 }
-        requires distinct { AreDistinct (xs_of points.now) }
-        requires some { 1 ≤ k }
-        requires threshold { k ≤ length points.now }
-        requires work { length points.now ≤ self.old }
-        requires room { k ≤ length out.old }
+        requires work { length shares.now.points.now ≤ self.old }
+        requires room { shares.now.k ≤ length out.old }
         ensures work { self.new ≡ self.old }
         ensures room { length out.new ≡ length out.old }
         ensures found { IsTrue result →
-            IsDecodedShort out.new (xs_of points.now) (ys_of points.now limb) k }
+            IsDecodedShort out.new (xs_of shares.now.points.now) (ys_of shares.now.points.now limb) shares.now.k }
         ensures complete { (f : List ℕ) →
-            IsDecodedShort f (xs_of points.now) (ys_of points.now limb) k → IsTrue result }
+            IsDecodedShort f (xs_of shares.now.points.now) (ys_of shares.now.points.now limb) shares.now.k → IsTrue result }
         ensures only { (f : List ℕ) →
-            IsDecodedShort f (xs_of points.now) (ys_of points.now limb) k →
+            IsDecodedShort f (xs_of shares.now.points.now) (ys_of shares.now.points.now limb) shares.now.k →
             SameCoefficients out.new f }
     {
-        fill_xs(&mut self.xs, points);
-        fill_ys(&mut self.ys, points, limb);
-        decode_short(&mut self.scratch, &self.xs, &self.ys, k, out)
+        fill_xs(&mut self.xs, shares.points);
+        fill_ys(&mut self.ys, shares.points, limb);
+        decode_short(&mut self.scratch, &self.xs, &self.ys, shares.k, out)
     }
 
     /// Decodes one limb by the first k points that lie on the first limb's polynomial, and by all
@@ -108,55 +97,43 @@ impl LimbWork {
     pub(crate) fn decode_near(
         &mut self,
         first: &Poly,
-        points: &[Point],
+        shares: &Shares,
         limb: usize,
-        k: usize,
         out: &mut Poly,
     ) -> bool
         requires limb { limb < 3 }
-        requires distinct { AreDistinct (xs_of points.now) }
-        requires some { 1 ≤ k }
-        requires threshold { k ≤ length points.now }
-        requires work { length points.now ≤ self.old }
-        requires room { k ≤ length out.old }
+        requires work { length shares.now.points.now ≤ self.old }
+        requires room { shares.now.k ≤ length out.old }
         ensures work { self.new ≡ self.old }
         ensures room { length out.new ≡ length out.old }
         ensures found { IsTrue result →
-            IsDecoded out.new (xs_of points.now) (ys_of points.now limb) k }
-        ensures complete { (f : List ℕ) → IsDecoded f (xs_of points.now) (ys_of points.now limb) k →
+            IsDecoded out.new (xs_of shares.now.points.now) (ys_of shares.now.points.now limb) shares.now.k }
+        ensures complete { (f : List ℕ) → IsDecoded f (xs_of shares.now.points.now) (ys_of shares.now.points.now limb) shares.now.k →
             IsTrue result }
-        ensures only { (f : List ℕ) → IsDecoded f (xs_of points.now) (ys_of points.now limb) k →
+        ensures only { (f : List ℕ) → IsDecoded f (xs_of shares.now.points.now) (ys_of shares.now.points.now limb) shares.now.k →
             SameCoefficients out.new f }
     {
-        if self.guess_near(first, points, limb, k, out) {
+        if self.guess_near(first, shares, limb, out) {
             return true;
         }
-        self.decode(points, limb, k, out)
+        self.decode(shares, limb, out)
     }
 
     // Tries the first k points that lie on the first limb's polynomial alone.
-    fn guess_near(
-        &mut self,
-        first: &Poly,
-        points: &[Point],
-        limb: usize,
-        k: usize,
-        out: &mut Poly,
-    ) -> bool
+    fn guess_near(&mut self, first: &Poly, shares: &Shares, limb: usize, out: &mut Poly) -> bool
         requires limb { limb < 3 }
-        requires distinct { AreDistinct (xs_of points.now) }
-        requires threshold { k ≤ length points.now }
-        requires work { length points.now ≤ self.old }
-        requires room { k ≤ length out.old }
+        requires work { length shares.now.points.now ≤ self.old }
+        requires room { shares.now.k ≤ length out.old }
         ensures work { self.new ≡ self.old }
         ensures room { length out.new ≡ length out.old }
-        ensures elements { AreElements (xs_of points.now) }
+        ensures elements { AreElements (xs_of shares.now.points.now) }
         ensures found { IsTrue result →
-            IsDecoded out.new (xs_of points.now) (ys_of points.now limb) k }
+            IsDecoded out.new (xs_of shares.now.points.now) (ys_of shares.now.points.now limb) shares.now.k }
     {
-        fill_xs(&mut self.xs, points);
-        fill_ys(&mut self.ys, points, limb);
+        fill_xs(&mut self.xs, shares.points);
+        fill_ys(&mut self.ys, shares.points, limb);
         know_elements(&self.xs);
+        let k = shares.k;
         if self.near_xs.len() < k || self.near_ys.len() < k {
             return false;
         }
@@ -165,7 +142,7 @@ impl LimbWork {
             &mut self.near_ys[..k],
             &mut self.scratch,
             first,
-            points,
+            shares.points,
             limb,
             &self.xs,
             &self.ys,

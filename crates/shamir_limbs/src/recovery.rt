@@ -10,6 +10,7 @@ use crate::key::{Key, key_of};
 use crate::key_work::KeyWork;
 use crate::limb_work::LimbWork;
 use crate::share::Point;
+use crate::shares::Shares;
 use field61::Fe;
 use poly61::Poly;
 
@@ -46,8 +47,7 @@ pub fn recover(work: &mut KeyWork, points: &[Point], k: usize) -> Option<Recover
 {
     find_line(
         &mut work.limbs,
-        points,
-        k,
+        &Shares { points, k },
         &mut work.first,
         &mut work.second,
         &mut work.third,
@@ -72,8 +72,7 @@ pub fn recover_line(mut work: KeyWork, points: &[Point], k: usize) -> Option<Key
 {
     let found = find_line(
         &mut work.limbs,
-        points,
-        k,
+        &Shares { points, k },
         &mut work.first,
         &mut work.second,
         &mut work.third,
@@ -95,38 +94,34 @@ pub fn recover_line(mut work: KeyWork, points: &[Point], k: usize) -> Option<Key
 // Makes the polynomials those of the key.
 fn find_line(
     limbs: &mut LimbWork,
-    points: &[Point],
-    k: usize,
+    shares: &Shares,
     first: &mut Poly,
     second: &mut Poly,
     third: &mut Poly,
 ) -> Option<Recovered>
-    requires distinct { AreDistinct (xs_of points.now) }
-    requires some { 1 ≤ k }
-    requires threshold { k ≤ length points.now }
-    requires work { length points.now ≤ limbs.old }
-    requires room { (k ≤ length first.old) × (k ≤ length second.old) × (k ≤ length third.old) }
-    requires points { length points.now < 2 ^ 32 }
+    requires work { length shares.now.points.now ≤ limbs.old }
+    requires room { (shares.now.k ≤ length first.old) × (shares.now.k ≤ length second.old)
+        × (shares.now.k ≤ length third.old) }
     ensures work { limbs.new ≡ limbs.old }
     ensures room { (length first.new ≡ length first.old) × (length second.new ≡ length second.old)
         × (length third.new ≡ length third.old) }
-    ensures line { IfSome result (λ r. IsKeyLine first.new second.new third.new points.now k) }
+    ensures line { IfSome result (λ r. IsKeyLine first.new second.new third.new shares.now.points.now shares.now.k) }
     ensures from { IfSome result (λ r.
-        IsRecoveredFrom r first.new second.new third.new points.now) }
+        IsRecoveredFrom r first.new second.new third.new shares.now.points.now) }
     ensures key { IfSome result (λ r. IsKey r.key.bytes) }
-    ensures only { (q0 q1 q2 : List ℕ) → IsKeyLine q0 q1 q2 points.now k
-        → IsSomeAnd result (λ r. IsRecoveredFrom r q0 q1 q2 points.now) }
+    ensures only { (q0 q1 q2 : List ℕ) → IsKeyLine q0 q1 q2 shares.now.points.now shares.now.k
+        → IsSomeAnd result (λ r. IsRecoveredFrom r q0 q1 q2 shares.now.points.now) }
 {
-    if !limbs.decode(points, 0, k, first) {
+    if !limbs.decode(shares, 0, first) {
         return None;
     }
-    if !limbs.decode_near(first, points, 1, k, second) {
+    if !limbs.decode_near(first, shares, 1, second) {
         return None;
     }
-    if !limbs.decode_near(first, points, 2, k, third) {
+    if !limbs.decode_near(first, shares, 2, third) {
         return None;
     }
-    key_through(first, second, third, points, k)
+    key_through(first, second, third, shares)
 }
 
 /// Tries the three polynomials of degree below k through the first k points alone: gives the key
@@ -143,35 +138,28 @@ pub fn recover_short(work: &mut KeyWork, points: &[Point], k: usize) -> Option<R
     ensures only { (q0 q1 q2 : List ℕ) → IsShortKeyLine q0 q1 q2 points.now k
         → IsSomeAnd result (λ r. IsRecoveredFrom r q0 q1 q2 points.now) }
 {
+    let shares = Shares { points, k };
     let limbs = &mut work.limbs;
-    if !limbs.decode_short(points, 0, k, &mut work.first) {
+    if !limbs.decode_short(&shares, 0, &mut work.first) {
         return None;
     }
-    if !limbs.decode_short(points, 1, k, &mut work.second) {
+    if !limbs.decode_short(&shares, 1, &mut work.second) {
         return None;
     }
-    if !limbs.decode_short(points, 2, k, &mut work.third) {
+    if !limbs.decode_short(&shares, 2, &mut work.third) {
         return None;
     }
-    key_through(&work.first, &work.second, &work.third, points, k)
+    key_through(&work.first, &work.second, &work.third, &shares)
 }
 
 // The key whose limbs are the values at 0, where enough of the points lie on all three polynomials.
-fn key_through(
-    first: &Poly,
-    second: &Poly,
-    third: &Poly,
-    points: &[Point],
-    k: usize,
-) -> Option<Recovered>
-    requires threshold { k ≤ length points.now }
-    requires points { length points.now < 2 ^ 32 }
+fn key_through(first: &Poly, second: &Poly, third: &Poly, shares: &Shares) -> Option<Recovered>
     ensures found { IsSome result
         ↔ (AreLimbs (values_at_zero first.now second.now third.now)
-        × (length points.now + k
-        ≤ 2 * agreement_of_all first.now second.now third.now points.now)) }
+        × (length shares.now.points.now + shares.now.k
+        ≤ 2 * agreement_of_all first.now second.now third.now shares.now.points.now)) }
     ensures from { IfSome result (λ r.
-        IsRecoveredFrom r first.now second.now third.now points.now) }
+        IsRecoveredFrom r first.now second.now third.now shares.now.points.now) }
     ensures key { IfSome result (λ r. IsKey r.key.bytes) }
 {
     let key = key_of(&[
@@ -179,8 +167,8 @@ fn key_through(
         second.value_at(Fe::ZERO),
         third.value_at(Fe::ZERO),
     ])?;
-    let agree = agreement(first, second, third, points);
-    if agree as usize * 2 < points.len() + k {
+    let agree = agreement(first, second, third, shares.points);
+    if agree as usize * 2 < shares.points.len() + shares.k {
         return None;
     }
     Some(Recovered { key, agree })
