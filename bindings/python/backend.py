@@ -1,7 +1,7 @@
-"""The build backend of the package: it wants nothing but Python's own library, so that `pip install bindings/python` needs no network.
+"""The build backend of the package: it needs only Python's own library, so that `pip install bindings/python` needs no network.
 
 On Linux for x86-64 with the GNU C library the wheel has the shared library that the repository keeps built, whose archive is proved.
-Elsewhere, or with STAR_CLIENT_PORTABLE=1, a C compiler ($CC, or cc) makes one of bindings/portable, which is tested.
+Elsewhere, or with STAR_CLIENT_PORTABLE=1, a C compiler ($CC, or cc) builds one from bindings/portable, which is tested.
 """
 import base64
 import hashlib

@@ -1,4 +1,4 @@
-/** What kinds of fields there are, each with what it says. */
+/** The kinds of fields, each with what it says. */
 export const KINDS: Readonly<Record<Kind, string>>;
 export type Kind = "open" | "group" | "share" | "hidden" | "seal";
 

@@ -17,7 +17,7 @@ export const MAX_RECORD: 3491;
 export type Status = 1 | 2 | 3 | 4 | 5;
 export const FAULTS: Readonly<Record<Status, string>>;
 
-/** A request that no report can be made of. The message names the argument and its limit. */
+/** A request from which no report can be made. The message names the argument and its limit. */
 export class ClientError extends Error {
   constructor(status: Status, message?: string);
   readonly status: Status;
@@ -26,7 +26,7 @@ export class ClientError extends Error {
 /** Bytes, each from 0 to 255, or a text that is encoded as UTF-8. */
 export type Bytes = string | Uint8Array | readonly number[];
 
-/** What the layers of a report are. What is beyond a limit is a ClientError. */
+/** The layers of a report. Anything beyond a limit is a ClientError. */
 export interface Layers {
   /** 1 (the default) or 2. */
   version?: 1 | 2;
@@ -44,11 +44,11 @@ export interface Content extends Layers {
 
 /** A report to make. */
 export interface Request extends Content {
-  /** From 0 to 4294967295, else a RangeError: only reports of one epoch are counted together. */
+  /** From 0 to 4294967295, otherwise a RangeError: only reports of the same epoch are counted together. */
   epoch: number;
-  /** 32 bytes. Drawn for this report if it is left out, which is what a client that makes one report wants. */
+  /** 32 bytes. If it is left out, a seed is drawn for this report, as a client that makes one report should do. */
   seed?: Bytes;
-  /** From 0 to 4294967295, else a RangeError: 0 if the seed is drawn. A seed and a number make one report, ever. */
+  /** From 0 to 4294967295, otherwise a RangeError: 0 if the seed is drawn. A seed and a number make one report, ever. */
   client?: number;
 }
 
@@ -65,23 +65,23 @@ export interface Requests extends Layers {
 }
 
 export interface Client {
-  /** The report after its length of four bytes, as it is in a stream: records joined are one. */
+  /** The report after its length of four bytes, as it is in a stream: concatenated records are a stream. */
   record(request: Request): Uint8Array;
   /** The bytes of a report alone. */
   report(request: Request): Uint8Array;
-  /** A stream: a record for each row. A fault names its row, and then there is no stream. The page goes on meanwhile. */
+  /** A stream: a record for each row. A fault names its row, and then there is no stream. The page keeps running meanwhile. */
   records(requests: Requests): Promise<Uint8Array>;
   /** How many bytes that report has; its record has four more. */
   length(content: Content): number;
 }
 
 /**
- * The client of the module beside this file: star_client.wasm, or star_client_32.wasm if the engine has no 64-bit memory.
- * Handed bytes of a module, or a response of them as of `fetch`, it takes those.
+ * The client in the module next to this file: star_client.wasm, or star_client_32.wasm if the engine has no 64-bit memory.
+ * If the bytes of a module are passed, or a response with them such as that of `fetch`, it loads those.
  */
 export function load(source?: BufferSource | Response | Promise<BufferSource | Response>): Promise<Client>;
 
-/** The address of the module that `load()` takes in this engine. */
+/** The address of the module that `load()` loads in this engine. */
 export function moduleAddress(): URL;
 
 /** What `normalized` trims: Unicode's White_Space, U+001C to U+001F, and U+FEFF. */

@@ -27,7 +27,7 @@ export const FAULTS = Object.freeze({
   5: "not 32 bytes of seed",
 });
 
-/** A request that no report can be made of. `status` is a key of FAULTS; the message names the argument and its limit. */
+/** A request from which no report can be made. `status` is a key of FAULTS; the message names the argument and its limit. */
 export class ClientError extends Error {
   constructor(status, message = FAULTS[status]) {
     super(message);
@@ -41,7 +41,7 @@ const fail = (status, message) => { throw new ClientError(status, message); };
 // Whether this engine runs modules with a 64-bit memory: a module with nothing but one is tried.
 const has64 = () => WebAssembly.validate(Uint8Array.of(0, 97, 115, 109, 1, 0, 0, 0, 5, 3, 1, 4, 1));
 
-/** The address of the module that `load()` takes in this engine. */
+/** The address of the module that `load()` loads in this engine. */
 export const moduleAddress = () => has64() ? new URL("./star_client.wasm", import.meta.url) : new URL("./star_client_32.wasm", import.meta.url);
 
 async function moduleHere() {
@@ -51,9 +51,9 @@ async function moduleHere() {
 }
 
 /**
- * The client of the module beside this file: star_client.wasm, or star_client_32.wasm if the engine has no 64-bit memory.
- * Handed bytes of a module, or a response of them, it takes those.
- * A good request always gives its report, so that the client serves for as many as the page makes.
+ * The client in the module next to this file: star_client.wasm, or star_client_32.wasm if the engine has no 64-bit memory.
+ * If the bytes of a module are passed, or a response with them, it loads those.
+ * A good request always gives its report, so one client serves for as many reports as the page makes.
  */
 export async function load(source = moduleHere()) {
   let bytes = await source;

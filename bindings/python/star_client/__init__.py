@@ -5,8 +5,8 @@
     client = Client()
     record = client.record(["Germany", "Berlin"], [20, 10], epoch=1)
 
-A record is a report after its length; records joined are a stream, which `star_tool reveal` reads. Each
-report has a seed of its own unless one is given. docs/CLIENTS.md of the repository says what a client must ensure.
+A record is a report after its length; concatenated records are a stream, which `star_tool reveal` reads.
+Each report has a seed of its own unless one is given. docs/CLIENTS.md of the repository says what a client must ensure.
 """
 from __future__ import annotations
 
@@ -72,7 +72,7 @@ FAULTS: dict[int, type[ClientError]] = {1: BadVersion, 2: BadThresholds, 3: BadV
 
 
 def library() -> str:
-    """The path of the library that `Client()` takes: that of the wheel, or else, in a clone, the one of Linux on x86-64."""
+    """The path of the library that `Client()` loads: the one in the wheel or, in a clone, the one for Linux on x86-64."""
     here = os.path.dirname(os.path.abspath(__file__))
     names = ["libstar_client.so", "libstar_client.dylib", "star_client.dll"]
     places = [os.path.join(here, name) for name in names]
@@ -81,11 +81,11 @@ def library() -> str:
     for path in places:
         if os.path.exists(path):
             return path
-    raise OSError("star_client's library isn't beside it: install the wheel (pip install bindings/python), or name a path: Client(path)")
+    raise OSError("star_client's library isn't next to it: install the wheel (pip install bindings/python), or name a path: Client(path)")
 
 
 class Client:
-    """Makes reports by the library of this package, or by that at the path. Threads may share one."""
+    """Makes reports with the library of this package, or with the one at the path. Threads may share a client."""
 
     def __init__(self, path: Union[str, os.PathLike[str], None] = None) -> None:
         made = ctypes.CDLL(library() if path is None else os.fspath(path))
@@ -100,7 +100,7 @@ class Client:
 
     def record(self, values: Sequence[Bytes], thresholds: Sequence[int], epoch: int, *, version: int = 1, extra: Bytes = b"",
                seed: Optional[Bytes] = None, client: int = 0) -> bytes:
-        """The report of the values after its length, as it is in a stream: records joined are one.
+        """The report of the values after its length, as it is in a stream: concatenated records are a stream.
 
         values      one for each threshold, of 1 to 64 bytes; a text is encoded as UTF-8
         thresholds  from how many reports on the aggregator may learn that value: 1 to 8 numbers from 2 to 512,
@@ -108,10 +108,10 @@ class Client:
         epoch       from 0 to 4294967295: only reports of one epoch are counted together
         version     1 or 2
         extra       what the aggregator learns if it learns the last value: up to 255 bytes, none in version 1
-        seed        32 bytes; without one it is drawn for this report alone, which is what a client wants
+        seed        32 bytes; without one it is drawn for this report alone, as a client should do
         client      from 0 to 4294967295; one seed and number make one report, ever
 
-        What is beyond its limit raises ClientError, and what is of another type TypeError; both name it.
+        An argument beyond its limit raises ClientError, one of another type TypeError; both name the argument.
         """
         report = self.report(values, thresholds, epoch, version=version, extra=extra, seed=seed, client=client)
         return len(report).to_bytes(4, "big") + report
@@ -179,7 +179,7 @@ class Client:
 
 
 class _Layers:
-    """A version and thresholds that fit it, and what a report needs of them."""
+    """A version with thresholds that are valid in it, and what a report needs from them."""
 
     def __init__(self, version: int, thresholds: Sequence[int]) -> None:
         if isinstance(version, bool) or version not in (1, 2):
@@ -251,6 +251,6 @@ def _number(name: str, number: Any, bits: int) -> int:
 
 
 def _raise(status: int) -> None:
-    # The arguments were looked at before, so that no status but 0 comes.
+    # The arguments were checked before, so only status 0 is possible.
     if status:
         raise FAULTS.get(status, ClientError)("the library's status is %d" % status)

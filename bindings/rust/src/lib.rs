@@ -122,7 +122,7 @@ pub enum Fault {
 }
 
 impl Fault {
-    /// The status of `star_client.h` that it is.
+    /// Its status in `star_client.h`.
     pub const fn status(&self) -> u32 {
         match self {
             Fault::Layers { .. } | Fault::Threshold { .. } => 2,
@@ -193,7 +193,7 @@ impl Request<'_> {
         (bytes > version.max_extra()).then_some(Fault::Extra { version, bytes })
     }
 
-    // For each value a byte that counts its bytes, and then these.
+    // For each value one byte with its length, and then its bytes.
     fn cells(&self) -> Result<Vec<u8>, Fault> {
         match self.fault() {
             Some(fault) => Err(fault),
@@ -202,8 +202,8 @@ impl Request<'_> {
     }
 }
 
-/// The report after its length, as it is in a stream: records joined are one. The seed and the
-/// client number are never to be used again.
+/// The report after its length, as it is in a stream: concatenated records are a stream. Never use
+/// the seed and the client number again.
 pub fn record(request: &Request, seed: &[u8; SEED_BYTES], client: u32) -> Result<Vec<u8>, Fault> {
     let mut record = vec![0; 4 + length(request)?];
     let written = write(request, seed, client, &mut record[4..])?;
@@ -211,7 +211,7 @@ pub fn record(request: &Request, seed: &[u8; SEED_BYTES], client: u32) -> Result
     Ok(record)
 }
 
-/// The bytes of the report alone. The seed and the client number are never to be used again.
+/// The bytes of the report alone. Never use the seed and the client number again.
 pub fn report(request: &Request, seed: &[u8; SEED_BYTES], client: u32) -> Result<Vec<u8>, Fault> {
     let mut report = vec![0; length(request)?];
     write(request, seed, client, &mut report)?;
@@ -240,7 +240,7 @@ pub fn length(request: &Request) -> Result<usize, Fault> {
     Ok(written)
 }
 
-// Writes the report into the room, which has its length, and says how long it is.
+// Writes the report into a buffer of its length, and returns how long it is.
 fn write(request: &Request, seed: &[u8; SEED_BYTES], client: u32, out: &mut [u8]) -> Result<usize, Fault> {
     let cells = request.cells()?;
     let mut written = 0;
@@ -267,7 +267,7 @@ fn write(request: &Request, seed: &[u8; SEED_BYTES], client: u32, out: &mut [u8]
     Ok(written)
 }
 
-// The arguments were looked at before, so that no other status comes.
+// The arguments were checked before, so no other status is possible.
 fn done(status: u32) {
     assert_eq!(status, 0, "the status of a good request");
 }
