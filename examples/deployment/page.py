@@ -120,7 +120,7 @@ def bar(node, whole, top, deepest, hue):
     solid = node.members - shut - other - undrawn
     track = [element("span", class_="full", style="width:%.3f%%;background:%s" % (100 * solid / top, hue))]
     track += [element("span", class_=kind, style="width:%.3f%%" % (100 * n / top)) for n, kind in ((other + undrawn, "plain"), (shut, "hatch")) if n]
-    name = element("span", element("i", "\u203a" if node.children else ""), shown(node.value), class_="name")
+    name = element("span", element("i", "\u203a" if node.children else ""), shown(node.value), class_="name l%d" % node.level if node.level else "name")
     words = element("span", element("b", number(node.members)), " %s, from %d on" % (percent(node.members, whole), node.threshold), class_="number")
     return element("div", name, element("div", *track, class_="track"), words, class_="bar")
 

@@ -101,7 +101,8 @@ class TreeMap:
         self._parts(node, level + 1, colour, (x + 2, y + top, w - 4, h - top - 2), name)
 
     def _label(self, node, label, size, room, level):
-        yield element("text", label, x=4, y=size + 1.5, font_size=size, font_weight=600 if level == 0 else None)
+        plain = spelled(node.value)[1]
+        yield element("text", label, x=4, y=size + 1.5, font_size=size, font_weight=600 if level == 0 else None, class_=None if plain else "raw")
         count = number(node.members)
         if not node.children and room[1] > 2 * size + 8 and fitted(count, room[0] - 8, 10.5) == count:
             yield element("text", count, x=4, y=2 * size + 3, font_size=10.5, class_="soft")

@@ -34,7 +34,7 @@ function collector(script = [], poison) {
   const kept = new Set(), bodies = [];
   globalThis.fetch = async (url, { body, ...options }) => {
     asked.push(options);
-    const reports = recordsOf(new Uint8Array(await body.arrayBuffer()));
+    const reports = recordsOf(body);
     bodies.push(reports.length);
     const said = script.shift();
     if (said instanceof Error) throw said;

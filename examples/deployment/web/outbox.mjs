@@ -8,7 +8,18 @@ const LEAVING = 60_000;                 // bytes that a browser takes from a pag
 
 const toText = (bytes) => btoa(String.fromCharCode(...bytes));
 const toBytes = (text) => Uint8Array.from(atob(text), (c) => c.charCodeAt(0));
-const toRecord = (text) => { const report = toBytes(text); return [new Uint8Array([0, 0, report.length >> 8, report.length & 255]), report]; };
+
+/** The records of these reports, one after the other. */
+function streamOf(texts) {
+  const reports = texts.map(toBytes), stream = new Uint8Array(reports.reduce((sum, report) => sum + 4 + report.length, 0));
+  let at = 0;
+  for (const report of reports) {
+    stream.set([0, 0, report.length >> 8, report.length & 255], at);
+    stream.set(report, at + 4);
+    at += 4 + report.length;
+  }
+  return stream;
+}
 
 /** The counts of an answer to so many reports; null if it isn't the collector's. */
 export function countsOf(text, number) {
@@ -26,7 +37,7 @@ function storageHere() {
 export class Outbox {
   #url; #storage; #name; #most; #changed;
   #memory = [];                         // reports that the storage didn't take
-  #sending = null; #size = BATCH; #good = 0; #pause = FIRST_PAUSE; #notBefore = 0; #timer;
+  #sending = null; #size = BATCH; #good = 0; #pause = FIRST_PAUSE; #notBefore = 0; #answered = false; #timer;
 
   /** What came of the reports that were sent from this page. */
   counts = { new: 0, known: 0, full: 0, refused: 0 };
@@ -57,15 +68,15 @@ export class Outbox {
 
   /** Sends what fits while the page goes away. It stays here until a later page has an answer. */
   leave() {
-    const records = [];
+    const leaving = [];
     let bytes = 0;
     for (const text of this.#all().slice(0, BATCH)) {
-      const record = toRecord(text);
-      bytes += 4 + record[1].length;
+      bytes += 4 + toBytes(text).length;
       if (bytes > LEAVING) break;
-      records.push(...record);
+      leaving.push(text);
     }
-    if (records.length && Date.now() >= this.#notBefore) this.#fetch(records, { keepalive: true }).catch(() => {});
+    const paused = this.#answered && Date.now() < this.#notBefore;      // a pause after no answer may be one that leaving itself has caused
+    if (leaving.length && !paused) this.#fetch(leaving, { keepalive: true }).catch(() => {});
   }
 
   #all() { return [...this.#read(), ...this.#memory]; }
@@ -154,8 +165,9 @@ export class Outbox {
   }
 
   // The next try, not before so many milliseconds, and spread so that many pages don't come at once.
-  #later(after = 0) {
-    const wait = Math.min(2 * LATER, Math.max(after, this.#pause) * (1 + Math.random() / 2));
+  #later(after) {
+    this.#answered = after !== undefined;
+    const wait = Math.min(2 * LATER, Math.max(after ?? 0, this.#pause) * (1 + Math.random() / 2));
     this.#pause = Math.min(2 * this.#pause, LATER);
     this.#notBefore = Date.now() + wait;
     clearTimeout(this.#timer);
@@ -164,9 +176,9 @@ export class Outbox {
 
   async #post(sent) {
     try {
-      const answer = await this.#fetch(sent.flatMap(toRecord), { signal: AbortSignal.timeout(30_000) });
+      const answer = await this.#fetch(sent, { signal: AbortSignal.timeout(30_000) });
       if (answer.status === 400 || answer.status === 413) return { never: true };
-      if (answer.status === 200) return { counts: countsOf(await answer.text(), sent.length) };
+      if (answer.status === 200) return { counts: countsOf(await answer.text(), sent.length), after: 0 };
       return { after: 1000 * (Number(answer.headers.get("Retry-After")) || 0) };
     } catch {
       return {};
@@ -174,7 +186,7 @@ export class Outbox {
   }
 
   // A body of no type is sent at once, with no question by OPTIONS before it.
-  #fetch(records, more) {
-    return fetch(this.#url, { method: "POST", body: new Blob(records), credentials: "omit", referrerPolicy: "no-referrer", redirect: "error", cache: "no-store", ...more });
+  #fetch(texts, more) {
+    return fetch(this.#url, { method: "POST", body: streamOf(texts), credentials: "omit", referrerPolicy: "no-referrer", redirect: "error", cache: "no-store", ...more });
   }
 }

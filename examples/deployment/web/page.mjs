@@ -62,7 +62,6 @@ async function report() {
   await outbox.add(client.report({ values, thresholds: now.thresholds, version: now.version, epoch }));
   remember(REPORTED, String(epoch));
   await outbox.flush();
-  showState();
 }
 
 // Whether this visitor may report now: once a week, unless they said no.
@@ -74,13 +73,12 @@ function showState() {
 }
 
 function listen() {
-  let busy = false;
   byId("form").addEventListener("submit", async (event) => {
     event.preventDefault();
-    if (busy) return;
-    busy = true;
+    if (byId("send").disabled) return;
+    byId("send").disabled = true;
     await report().catch((fault) => say(`The report couldn't be made: ${fault.message}`, "bad"));
-    busy = false;
+    showState();
   });
   byId("never").addEventListener("click", () => { remember(NEVER, "yes"); say(""); showState(); });
   addEventListener("online", () => outbox.flush());
