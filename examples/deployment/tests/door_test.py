@@ -1,8 +1,8 @@
 """The shipped nginx files before a collector, on loopback: /usr/bin/python3 door_test.py [--minutes N]. It needs nginx, gunicorn and openssl.
 
-Only names, addresses and paths of the files are changed. Slow clients, many requests of an address, another origin, networks of IPv6, the login, and a
-flood of the smallest reports by one address for N minutes (10 unless said otherwise), after which the epoch is at most 5 in 100 full. No file has an
-address.
+Only names, addresses and paths of the files are changed. Slow clients, many requests of an address, another origin, networks of IPv6, the login, and
+a flood of the smallest reports by one address for N minutes (10 unless said otherwise), after which the epoch is at most 5 in 100 full. No file has
+an address.
 """
 import base64
 import contextlib
