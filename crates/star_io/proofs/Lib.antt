@@ -5,4 +5,4 @@ mod KnownBytes
 mod NextRecord
 pub mod RecordListLaws
 pub mod RecordLaws
-mod Streams
+pub mod Streams

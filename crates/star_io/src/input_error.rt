@@ -2,6 +2,7 @@ ghost use Rattle.std.specs.Prelude.{◌≡◌};
 ghost use Rattle.star_io.specs.declared.input_error.InputError.TheVariants.{Read, NoMemory};
 
 use crate::failed::Failed;
+use crate::no_memory;
 use crate::reader::NextError;
 use std::alloc::{AllocError, AllocFailed};
 use thiserror::Error;
@@ -37,6 +38,14 @@ impl From<NextError> for InputError {
             NextError::Read => InputError::Read,
             NextError::NoMemory => InputError::NoMemory,
         }
+    }
+}
+
+impl From<no_memory::NoMemory> for InputError {
+    ghost from_gives = { λ _ e. e ≡ NoMemory };
+
+    fn from(_: no_memory::NoMemory) -> Self {
+        InputError::NoMemory
     }
 }
 

@@ -2,7 +2,8 @@
 //!
 //! A [`Source`] and a [`Sink`] count their faults, so that a caller can tell a failed read from
 //! the end of the input. A [`RecordReader`] takes one [`Record`] after the other from a source,
-//! however the source cuts its bytes. [`read_records`] and [`read_bytes`] read an input whole.
+//! however the source cuts its bytes. [`feed`] hands the records of an input to a [`RecordTaker`] as
+//! they come. [`read_records`] and [`read_bytes`] read an input whole.
 #![tactic(auto)]
 
 mod bytes;
@@ -19,6 +20,7 @@ mod record;
 mod sink;
 mod source;
 mod standard;
+mod taker;
 mod whole_input;
 mod whole_stream;
 
@@ -34,8 +36,9 @@ pub use record::{MAX_RECORD_BYTES, MAX_RECORDS, Record};
 pub use sink::Sink;
 pub use source::Source;
 pub use standard::{StdSink, StdSource};
+pub use taker::RecordTaker;
 pub use whole_input::read_bytes;
-pub use whole_stream::read_records;
+pub use whole_stream::{feed, read_records};
 
 #[cfg(test)]
 mod tests;

@@ -3,8 +3,8 @@ use crate::bytes::Bytes;
 /// The length of the longest record that is kept, in bytes.
 pub const MAX_RECORD_BYTES: u32 = 8192;
 
-/// The most records of a stream that is read whole.
-pub const MAX_RECORDS: usize = 131_072;
+/// The most records of a stream that a command reads.
+pub const MAX_RECORDS: u32 = 131_072;
 
 /// What stands at one place of a stream.
 ///

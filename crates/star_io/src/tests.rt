@@ -140,7 +140,7 @@ fn a_stream_is_read_whole(rt: HostRuntime) -> Result<(), Fail> {
     let alloc = rt.alloc();
     let stream = b"\0\0\0\x01a\0\0\0\0\0";
     let mut source = StdSource::new(stream.as_slice());
-    let records = read_records(alloc, &mut source)?;
+    let records = read_records(alloc, &mut source, 131_072)?;
     let text = format!(in alloc; "{records:?}")?;
     assert_eq!(rt;
         text.as_str(),
@@ -156,7 +156,7 @@ fn a_failed_read_ends_no_input(rt: HostRuntime) -> Result<(), Fail> {
     for call in 0..3 {
         let stream = Vec::from_slice(alloc, b"\0\0\0\x01a\0\0\0\0")?;
         let mut source = MemorySource::new(stream, vec![in alloc; 5]?, vec![in alloc; call]?);
-        assert!(rt; read_records(alloc, &mut source) == Err(InputError::Read));
+        assert!(rt; read_records(alloc, &mut source, 131_072) == Err(InputError::Read));
 
         let bytes = Vec::from_slice(alloc, b"abcdefg")?;
         let mut source = MemorySource::new(bytes, vec![in alloc; 5]?, vec![in alloc; call]?);
