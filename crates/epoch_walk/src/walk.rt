@@ -12,7 +12,7 @@ use crate::stray::{Strays, keep};
 use crate::walks::hand;
 use layer_walk::Walk;
 use recovery_pool::Gate;
-use star_io::{NoMemory, Record};
+use star_io::{NoMemory, Record, RecordTaker};
 use std::alloc::Global;
 use std::collections::BTreeMap;
 use std::marker::Model;
@@ -99,5 +99,20 @@ impl EpochWalk {
             parts,
             strays,
         })
+    }
+}
+
+impl RecordTaker for EpochWalk {
+    ghost use Rattle.std.specs.Prelude.{◌-◌, ◌^◌};
+    ghost use Rattle.epoch_walk.specs.Standing.{StandsFor};
+
+    ghost most = { 2 ^ 32 - 1 };
+
+    ghost taken = { λ w. w.taken };
+
+    ghost stands = { λ w _ records. StandsFor w records };
+
+    fn take_next(&mut self, item: Record) -> Result<(), NoMemory> {
+        self.take(item)
     }
 }

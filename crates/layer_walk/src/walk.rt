@@ -12,7 +12,7 @@ use crate::outer::first_row;
 use crate::refusal::{Refusal, Refusals, Stage};
 use crate::revealed::Revealed;
 use recovery_pool::Gate;
-use star_io::{NoMemory, Record};
+use star_io::{NoMemory, Record, RecordTaker};
 use std::alloc::Global;
 use std::marker::Model;
 use std::thread::Threads;
@@ -123,5 +123,20 @@ impl Walk {
         let count = first.level.rows.len() as u32;
         let told = told_from(rt, alloc, first, refusals, workers, gate)?;
         told.in_order(taken, count)
+    }
+}
+
+impl RecordTaker for Walk {
+    ghost use Rattle.std.specs.Prelude.{◌≡◌, ◌-◌, ◌^◌};
+    ghost use Rattle.layer_walk.specs.Standing.{StandsFor};
+
+    ghost most = { 2 ^ 32 - 1 };
+
+    ghost taken = { λ w. w.taken };
+
+    ghost stands = { λ w epoch records. (w.epoch ≡ epoch) × StandsFor w records };
+
+    fn take_next(&mut self, item: Record) -> Result<(), NoMemory> {
+        self.take(item)
     }
 }
