@@ -10,7 +10,7 @@ ghost use Rattle.book_file.specs.BookOf.{book_of, one_book, sum_of, taken_body};
 
 use crate::counts::{count_more, is_outer_frame};
 use crate::frame_bytes::FrameBytes;
-use star_io::{MAX_RECORDS, NoMemory, Record};
+use star_io::{MAX_RECORDS, NoMemory, Record, RecordTaker};
 use std::alloc::Global;
 use std::collections::BTreeMap;
 use std::collections::btree_map::Iter;
@@ -208,6 +208,23 @@ impl RowBook {
     {
         self.dropped += 1;
         self.total += 1;
+    }
+}
+
+impl RecordTaker for RowBook {
+    ghost use Rattle.std.specs.Prelude.{◌≡◌};
+    ghost use Rattle.star_io.specs.declared.record.TheConstants.{MAX_RECORDS};
+    ghost use Rattle.book_file.specs.Book.{total_of};
+    ghost use Rattle.book_file.specs.BookOf.{book_of};
+
+    ghost most = { MAX_RECORDS };
+
+    ghost taken = { λ b. total_of b };
+
+    ghost stands = { λ b epoch records. b ≡ book_of epoch records };
+
+    fn take_next(&mut self, item: Record) -> Result<(), NoMemory> {
+        self.add(&item)
     }
 }
 

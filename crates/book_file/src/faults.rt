@@ -64,7 +64,7 @@ pub(crate) fn version_fault(version: &[u8; 1]) -> Option<BookKind>
 pub(crate) fn dropped_fault(dropped: u32) -> Option<BookKind>
     ensures { result ≡ unless (not (nat_lt MAX_RECORDS dropped)) Count }
 {
-    if dropped as usize > MAX_RECORDS {
+    if dropped > MAX_RECORDS {
         Some(BookKind::Count)
     } else {
         None
@@ -75,7 +75,7 @@ pub(crate) fn dropped_fault(dropped: u32) -> Option<BookKind>
 pub(crate) fn count_fault(book: &RowBook, count: u32) -> Option<BookKind>
     ensures { result ≡ count_fault book.now count }
 {
-    if count == 0 || book.total() as usize + count as usize > MAX_RECORDS {
+    if count == 0 || book.total() as usize + count as usize > MAX_RECORDS as usize {
         Some(BookKind::Count)
     } else {
         None

@@ -71,7 +71,7 @@ fn with_book(
     }
     sum.know();
     book.know();
-    if (sum.total() + book.total()) as usize > MAX_RECORDS {
+    if sum.total() + book.total() > MAX_RECORDS {
         return Ok(Err(MergeFault::TooMany));
     }
     absorb(&mut sum, book)?;
