@@ -1,5 +1,5 @@
 -- The commands `book`, `merge` and `openbook`.
-use Rattle.std.proofs.Common.{◌≡◌, ◌∙◌, ℕ, List, [], Some, Ok, Err, refl, sym, ap, inl, true}
+use Rattle.std.proofs.Common.{◌≡◌, ◌∙◌, ℕ, List, [], Some, refl, sym, ap, inl, true}
 use Rattle.star_io.specs.declared.record.TheConstants.{MAX_RECORDS}
 use Rattle.star_io.specs.Faults.{Rose}
 use Rattle.star_io.specs.RecordLists.{stream_records, rest_after}
@@ -8,7 +8,7 @@ use Rattle.layer_walk.specs.Standing.{StandsFor}
 use Rattle.layer_walk.specs.declared.revealed.Revealed.{Revealed}
 use Rattle.reveal_report.specs.RevealText.{text_of}
 use Rattle.book_file.specs.Book.{Book}
-use Rattle.book_file.specs.BookOf.{book_of}
+use Rattle.book_file.specs.BookOf.{book_of, bodies_of}
 use Rattle.book_file.specs.Spelling.{spelling}
 use Rattle.book_merge.specs.Merging.{merge_rest, IsSum, HasFault}
 use Rattle.book_merge.specs.Records.{records_of}
@@ -28,6 +28,11 @@ use Rattle.star_tool.specs.Verbs.OpenBook.{opened}
 use Rattle.star_tool.proofs.Reasons.{true_and}
 use Rattle.star_tool.proofs.RevealLemmas.{IsRevealOf, told_is}
 use Rattle.star_tool.proofs.StreamLemmas.{stream_good}
+
+-- the book of no record
+pub book_begun : (e : ℕ) → record { epoch = e; dropped = 0; entries = [] } ≡ book_of e []
+unfolding book_of bodies_of
+book_begun e = refl
 
 -- the spelling of the book of all records is the output
 pub book_made : (epoch : ℕ) (input coins : Seen) (book : Book) (text : List ℕ)

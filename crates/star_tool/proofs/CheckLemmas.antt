@@ -1,8 +1,9 @@
 -- The command `check`.
-use Rattle.std.proofs.Common.{◌≡◌, ◌∙◌, ℕ, List, [], Some, ap}
+use Rattle.std.proofs.Common.{◌≡◌, ℕ, List, []}
 use Rattle.star_io.specs.declared.record.Record.{Record}
 use Rattle.star_io.specs.declared.record.TheConstants.{MAX_RECORDS}
-use Rattle.star_io.specs.RecordLists.{stream_records, rest_after}
+use Rattle.star_io.specs.RecordLists.{stream_records}
+use Rattle.star_io.proofs.Streams.{HasAll}
 use Rattle.command_words.specs.declared.command.Command.TheVariants.{Check}
 use Rattle.star_tool.specs.CheckText.{check_text_of}
 use Rattle.star_tool.specs.Run.{IsOutput}
@@ -10,8 +11,8 @@ use Rattle.star_tool.specs.Seen.{Seen}
 use Rattle.star_tool.proofs.StreamLemmas.{stream_good}
 
 -- the lines of all records are the output
-pub check_made : (input coins : Seen) (records : List Record) (text : List ℕ) → ((bytes : List ℕ) → input.left ≡ Some bytes
-    → (records ≡ stream_records bytes) × (rest_after MAX_RECORDS bytes ≡ []) × (input.left_after ≡ Some [])) → text ≡ check_text_of records → IsOutput Check input coins text
-check_made input coins records text all is = λ bytes told.
+pub check_made : (fact : List Record → Type 0) (input coins : Seen) (text : List ℕ) → HasAll MAX_RECORDS fact input.left input.left_after
+    → ((records : List Record) → fact records → text ≡ check_text_of records) → IsOutput Check input coins text
+check_made fact input coins text all is = λ bytes told.
     let read = all bytes told in
-    (stream_good bytes read.1, read.2, ([], tt, is ∙ ap check_text_of read.0))
+    (stream_good bytes read.1, read.2, ([], tt, is (stream_records bytes) read.0))

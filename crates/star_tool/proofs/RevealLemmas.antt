@@ -11,6 +11,7 @@ use Rattle.star_io.specs.Faults.{Rose}
 use Rattle.star_io.specs.Records.{AreRecords}
 use Rattle.star_io.specs.RecordLists.{stream_records, rest_after}
 use Rattle.star_io.proofs.RecordListLaws.{only_records, rest_none}
+use Rattle.star_io.proofs.Streams.{HasAll}
 use Rattle.nest_client.specs.Generator.{drawn_frame, drawn_frames, drawn_records}
 use Rattle.layer_walk.specs.Reveal.{reveal_of}
 use Rattle.layer_walk.specs.Seen.{WalkView}
@@ -22,7 +23,6 @@ use Rattle.star_tool.specs.declared.verbs.generate.TheConstants.{TRIAL_EPOCH}
 use Rattle.star_tool.specs.Run.{IsOutput, Reason}
 use Rattle.star_tool.specs.Seen.{Seen, unseen}
 use Rattle.star_tool.specs.Status.{input_status}
-use Rattle.star_tool.proofs.Feeding.{StandsForAll}
 use Rattle.star_tool.proofs.StreamLemmas.{stream_good}
 
 -- what a walk of this epoch told is the reveal of the records that it stands for
@@ -35,11 +35,15 @@ told_is walk told epoch records is tells stands = tells records stands ∙ ap (�
 -- ---- `reveal`
 
 -- the text of what all records tell is the output
-pub reveal_made : (epoch workers : ℕ) (input coins : Seen) (walk : WalkView) (told : Revealed) (text : List ℕ) → walk.epoch ≡ epoch → StandsForAll (StandsFor walk) input.left input.left_after → IsRevealOf walk told
+pub reveal_made : (epoch workers : ℕ) (input coins : Seen) (walk : WalkView) (told : Revealed) (text : List ℕ)
+    → HasAll MAX_RECORDS (λ records. (walk.epoch ≡ epoch) × StandsFor walk records) input.left input.left_after → IsRevealOf walk told
     → text ≡ text_of told → IsOutput (Reveal epoch workers) input coins text
-reveal_made epoch workers input coins walk told text is all tells made = λ bytes here.
-    let read = all bytes here in
-    (stream_good bytes read.1, read.2, ([], tt, made ∙ ap text_of (told_is walk told epoch (stream_records bytes) is tells read.0)))
+reveal_made epoch workers input coins walk told text all tells made = λ bytes here.
+    let read = all bytes here in (
+      stream_good bytes read.1,
+      read.2,
+      ([], tt, made ∙ ap text_of (told_is walk told epoch (stream_records bytes) read.0.0 tells read.0.1)),
+    )
 
 -- ---- `gen`
 

@@ -65,3 +65,9 @@ check_text_of records = let findings = map finding_of records in lines_from 0 fi
 -- the line of record i was put behind a text, and the answer says whether it is good
 abbrev pub WritesLine : ℕ → Finding → Bool → List ℕ → List ℕ → Type 0
 WritesLine i f good old new = (good ≡ is_good f) × (new ≡ old ++ line i f)
+
+-- the text has the lines of these findings, of which so many are good and so many refused
+pub record HasLines (findings : List Finding) (good refused : ℕ) (text : List ℕ) : Type 0 where
+  pub lines : text ≡ lines_from 0 findings
+  pub good_are : good ≡ count_by is_good findings
+  pub refused_are : refused ≡ count_by (λ f. not (is_good f)) findings

@@ -1,13 +1,15 @@
 // The text of `check`.
-ghost use Rattle.std.specs.Prelude.{◌≡◌, ◌≤◌, ◌++◌, length, IfOk, OnOk, string_bytes};
+ghost use Rattle.std.specs.Prelude.{◌≡◌, ◌≤◌, ◌<◌, ◌+◌, ◌-◌, ◌^◌, ◌++◌, ◌∷◌, [], List, length, map, IfOk, OnOk, string_bytes};
 ghost use Rattle.std.specs.Fmt.{decimal};
 ghost use Rattle.report_frame.specs.View.{fields_of};
-ghost use Rattle.star_tool.specs.CheckText.{WritesLine, finding_of, check_text_of, line, version_text, good_head, good_tail, count_line};
+ghost use Rattle.star_io.specs.declared.record.Record.{Record};
+ghost use Rattle.star_io.specs.declared.record.TheConstants.{MAX_RECORDS};
+ghost use Rattle.star_tool.specs.CheckText.{Finding, HasLines, WritesLine, finding_of, check_text_of, line, version_text, good_head, good_tail, count_line};
 ghost use Rattle.star_tool.specs.CheckText.Finding.{Good, Refused};
 ghost use Rattle.star_io.specs.declared.record.Record.TheVariants.{Whole};
 
 use report_frame::{FrameView, Version, decode_view};
-use star_io::{MAX_RECORD_BYTES, MAX_RECORDS, NoMemory, Record};
+use star_io::{MAX_RECORD_BYTES, NoMemory, Record, RecordTaker};
 use std::alloc::{AllocError, Global};
 use std::fmt::Write;
 
@@ -16,17 +18,82 @@ pub fn check_text(alloc: Global, records: &[Record]) -> Result<Vec<u8>, NoMemory
     requires { length records.now ≤ MAX_RECORDS }
     ensures { IfOk result (λ text. text.items ≡ check_text_of records.now) }
 {
-    let mut text = String::new(alloc);
-    let mut number = 0u32;
-    let mut good = 0u32;
+    let mut lines = CheckLines::new(alloc);
     for entry in records {
-        let is_good = push_line(&mut text, number, entry)?;
-        good += u32::from(is_good);
-        number += 1;
+        lines.put(entry)?;
     }
-    let refused = number - good;
-    push_count_line(&mut text, number, good, refused)?;
-    Ok(text.into_bytes())
+    lines.finish()
+}
+
+/// The lines of the records that were taken, and how many of these are frames and how many not.
+#[derive(Drop)]
+pub(crate) struct CheckLines {
+    text: String,
+    good: u32,
+    refused: u32,
+}
+
+impl CheckLines {
+    /// No line yet. It takes no memory.
+    pub(crate) fn new(alloc: Global) -> CheckLines
+        ensures number { result.good + result.refused ≡ 0 }
+        ensures lines { HasLines [] result.good result.refused (string_bytes result.text) }
+    {
+        CheckLines {
+            text: String::new(alloc),
+            good: 0,
+            refused: 0,
+        }
+    }
+
+    /// Writes the line of the next record.
+    fn put(&mut self, entry: &Record) -> Result<(), NoMemory>
+        requires { self.old.good + self.old.refused < 2 ^ 32 - 1 }
+        ensures number { OnOk result (self.new.good + self.new.refused
+            ≡ self.old.good + self.old.refused + 1) }
+        ensures lines { OnOk result ((findings : List Finding) →
+            HasLines findings self.old.good self.old.refused (string_bytes self.old.text) →
+            HasLines (findings ++ finding_of entry.now ∷ []) self.new.good self.new.refused
+            (string_bytes self.new.text)) }
+    {
+        let number = self.good + self.refused;
+        let is_good = push_line(&mut self.text, number, entry)?;
+        self.good += u32::from(is_good);
+        self.refused += u32::from(!is_good);
+        Ok(())
+    }
+
+    /// The lines, and behind them the one that counts them.
+    pub(crate) fn finish(self) -> Result<Vec<u8>, NoMemory>
+        requires { self.good + self.refused < 2 ^ 32 }
+        ensures { (records : List Record) →
+            HasLines (map finding_of records) self.good self.refused (string_bytes self.text) →
+            IfOk result (λ text. text.items ≡ check_text_of records) }
+    {
+        let CheckLines {
+            mut text,
+            good,
+            refused,
+        } = self;
+        push_count_line(&mut text, good + refused, good, refused)?;
+        Ok(text.into_bytes())
+    }
+}
+
+impl RecordTaker for CheckLines {
+    ghost use Rattle.std.specs.Prelude.{◌+◌, ◌-◌, ◌^◌, map, string_bytes};
+    ghost use Rattle.star_tool.specs.CheckText.{HasLines, finding_of};
+
+    ghost most = { 2 ^ 32 - 1 };
+
+    ghost taken = { λ t. t.good + t.refused };
+
+    ghost stands = { λ t _ records.
+        HasLines (map finding_of records) t.good t.refused (string_bytes t.text) };
+
+    fn take_next(&mut self, item: Record) -> Result<(), NoMemory> {
+        self.put(&item)
+    }
 }
 
 // Writes the line of a record, and says whether it is a frame.

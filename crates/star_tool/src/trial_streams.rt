@@ -5,7 +5,7 @@ ghost use Rattle.star_io.specs.declared.record.TheConstants.{MAX_RECORDS};
 use crate::run;
 use command_words::Words;
 use recovery_pool::{Gate, NoGate};
-use star_io::{MemorySink, MemorySource, NoMemory, Record, read_records};
+use star_io::{MAX_RECORDS, MemorySink, MemorySource, NoMemory, Record, read_records};
 use std::alloc::{AllocError, Global};
 use std::test::Fail;
 use std::thread::Threads;
@@ -92,7 +92,7 @@ pub(crate) fn made<R: Threads + Sync>(
     ensures { IfOk result (λ records. length records.items ≤ MAX_RECORDS) }
 {
     let stream = made_stream(rt, alloc, options, table)?;
-    match read_records(alloc, &mut source(alloc, &stream)?) {
+    match read_records(alloc, &mut source(alloc, &stream)?, MAX_RECORDS) {
         Ok(records) => Ok(records),
         Err(_) => Err(Fail::from(NoMemory)),
     }

@@ -6,7 +6,7 @@ ghost use Rattle.star_tool.specs.Seen.{Seen, seen, unseen};
 
 use crate::feed::book_over;
 use crate::status::Status;
-use star_io::Source;
+use star_io::{MAX_RECORDS, Source};
 use std::alloc::Global;
 
 /// How the verb is written.
@@ -24,7 +24,7 @@ pub(crate) fn book_output<S: Source>(
         (seen S.left S.faults input.old input.new) unseen) }
     ensures later { S.faults input.old ≤ S.faults input.new }
 {
-    let book = book_over(alloc, epoch, input)?;
+    let book = book_over(alloc, epoch, input, MAX_RECORDS)?;
     let bytes = book.to_bytes()?;
     Ok(bytes)
 }

@@ -9,7 +9,7 @@ ghost use Rattle.star_tool.specs.Seen.{Seen, seen, unseen};
 use crate::status::Status;
 use cert_audit::{Cert, cert_bytes};
 use open_cert::certs_of;
-use star_io::{NoMemory, Source, read_records};
+use star_io::{MAX_RECORDS, NoMemory, Source, read_records};
 use std::alloc::Global;
 
 /// How the verb is written.
@@ -27,7 +27,7 @@ pub(crate) fn certify_output<S: Source>(
         (seen S.left S.faults input.old input.new) unseen) }
     ensures later { S.faults input.old ≤ S.faults input.new }
 {
-    let records = read_records(alloc, input)?;
+    let records = read_records(alloc, input, MAX_RECORDS)?;
     let certs = certs_of(alloc, &records, epoch)?;
     let bytes = certs_bytes(alloc, certs.as_slice())?;
     Ok(bytes)

@@ -4,9 +4,9 @@ ghost use Rattle.command_words.specs.declared.command.Command.{Command};
 ghost use Rattle.star_tool.specs.Run.{Makes, Reason};
 ghost use Rattle.star_tool.specs.Seen.{Seen, seen, unseen};
 
-use crate::check_text::check_text;
+use crate::check_text::CheckLines;
 use crate::status::Status;
-use star_io::{Source, read_records};
+use star_io::{MAX_RECORDS, Source, feed};
 use std::alloc::Global;
 
 /// How the verb is written.
@@ -20,7 +20,8 @@ pub(crate) fn check_output<S: Source>(alloc: Global, input: &mut S) -> Result<Ve
         unseen) }
     ensures later { S.faults input.old ≤ S.faults input.new }
 {
-    let records = read_records(alloc, input)?;
-    let text = check_text(alloc, &records)?;
+    let mut lines = CheckLines::new(alloc);
+    feed(alloc, input, MAX_RECORDS, &mut lines)?;
+    let text = lines.finish()?;
     Ok(text)
 }

@@ -1,7 +1,5 @@
 // The command `epochs`.
-ghost use Rattle.std.specs.Prelude.{◌≤◌, length, IfOk, IfErr};
-ghost use Rattle.star_io.specs.declared.record.TheConstants.{MAX_RECORDS};
-ghost use Rattle.epoch_walk.specs.Standing.{StandsFor};
+ghost use Rattle.std.specs.Prelude.{◌≤◌, IfOk, IfErr};
 ghost use Rattle.command_words.specs.Workers.{AreWorkers};
 ghost use Rattle.command_words.specs.declared.command.Command.{Command};
 ghost use Rattle.star_tool.specs.Run.{Makes, Reason};
@@ -11,7 +9,7 @@ use crate::epochs_text::epochs_text;
 use crate::status::Status;
 use epoch_walk::EpochWalk;
 use recovery_pool::Gate;
-use star_io::{NoMemory, Record, Source, read_records};
+use star_io::{MAX_RECORDS, Source, feed};
 use std::alloc::Global;
 use std::thread::Threads;
 
@@ -34,21 +32,9 @@ pub(crate) fn epochs_output<R: Threads + Sync, S: Source, G: Gate>(
         (seen S.left S.faults input.old input.new) unseen) }
     ensures later { S.faults input.old ≤ S.faults input.new }
 {
-    let records = read_records(alloc, input)?;
-    let walk = walk_of(alloc, records)?;
+    let mut walk = EpochWalk::new(alloc);
+    feed(alloc, input, MAX_RECORDS, &mut walk)?;
     let told = walk.finish(rt, workers, gate)?;
     let text = epochs_text(alloc, &told)?;
     Ok(text)
-}
-
-// The walk that has taken these records.
-fn walk_of(alloc: Global, records: Vec<Record>) -> Result<EpochWalk, NoMemory>
-    requires { length records.items ≤ MAX_RECORDS }
-    ensures { IfOk result (λ walk. StandsFor walk records.items) }
-{
-    let mut walk = EpochWalk::new(alloc);
-    for item in records {
-        walk.take(item)?;
-    }
-    Ok(walk)
 }

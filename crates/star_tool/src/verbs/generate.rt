@@ -12,6 +12,7 @@ use crate::stream_source::StreamSource;
 use nest_client::gen_text;
 use recovery_pool::Gate;
 use reveal_report::summary_of;
+use star_io::MAX_RECORDS;
 use std::alloc::Global;
 use std::thread::Threads;
 
@@ -38,7 +39,12 @@ pub(crate) fn gen_output<R: Threads + Sync, G: Gate>(
     ensures reason { IfErr result (Reason (Command.Gen number reports liars workers) unseen unseen) }
 {
     let stream = gen_text(alloc, number, reports, liars)?;
-    let walk = walk_over(alloc, TRIAL_EPOCH, &mut StreamSource::new(&stream))?;
+    let walk = walk_over(
+        alloc,
+        TRIAL_EPOCH,
+        &mut StreamSource::new(&stream),
+        MAX_RECORDS,
+    )?;
     let revealed = walk.finish(rt, workers, gate)?;
     let text = summary_of(alloc, &revealed)?;
     Ok(text)

@@ -9,7 +9,7 @@ use crate::feed::walk_over;
 use crate::status::Status;
 use recovery_pool::Gate;
 use reveal_report::text_of;
-use star_io::Source;
+use star_io::{MAX_RECORDS, Source};
 use std::alloc::Global;
 use std::thread::Threads;
 
@@ -33,7 +33,7 @@ pub(crate) fn reveal_output<R: Threads + Sync, S: Source, G: Gate>(
         (seen S.left S.faults input.old input.new) unseen) }
     ensures later { S.faults input.old ≤ S.faults input.new }
 {
-    let walk = walk_over(alloc, epoch, input)?;
+    let walk = walk_over(alloc, epoch, input, MAX_RECORDS)?;
     let revealed = walk.finish(rt, workers, gate)?;
     let text = text_of(alloc, &revealed)?;
     Ok(text)

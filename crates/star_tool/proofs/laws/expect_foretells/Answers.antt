@@ -1,4 +1,3 @@
-use Rattle.std.proofs.Common.{refl}
 use Rattle.star_tool.proofs.ExpectLemmas.{foretold, foretold_text, foretold_reveal, stream_kept}
 use Rattle.star_tool.proofs.laws.expect_foretells.Goals as goal
 

@@ -23,4 +23,4 @@ pub returns-clause-output : goal.returns-clause-output
 returns-clause-output g c =
     gen_made c.args.number c.args.reports c.args.liars c.args.workers c.new.result c.in_ok-walk.walk c.in_ok-revealed.revealed c.in_ok-text.text.items
     (same_records c.args.number c.args.reports c.args.liars c.new.result c.deref.result.now c.in_ok-stream.stream.items c.new.ensures c.deref.ensures.value c.in_ok-stream.ensures.records)
-    c.in_ok-walk.ensures.epoch (c.in_ok-walk.ensures.records c.new.result refl).0 c.in_ok-revealed.ensures c.in_ok-text.ensures
+    (c.in_ok-walk.ensures.records c.new.result refl).0.0 (c.in_ok-walk.ensures.records c.new.result refl).0.1 c.in_ok-revealed.ensures c.in_ok-text.ensures
