@@ -16,25 +16,25 @@ use std::alloc::{AllocError, Global};
 pub enum Command {
     /// Reads a stream of records, and prints a line for each.
     Check,
-    /// Reads a stream of records, and prints what it tells for an epoch.
+    /// Reads a stream of records, and prints what it reveals for an epoch.
     Reveal {
         epoch: u32,
-        /// How many open groups beside each other. They change nothing of what is printed.
+        /// How many threads open groups. The number changes nothing in what is printed.
         workers: u32,
     },
     /// Reads a table, and prints the stream of the reports of its rows.
     Make {
         epoch: u32,
-        /// That of all reports.
+        /// The version of all reports.
         version: Version,
-        /// One for each column.
+        /// One threshold for each column.
         thresholds: Thresholds,
-        /// Of it come the coins of all clients.
+        /// The coins of all clients are derived from it.
         seed: Option<[u8; 32]>,
     },
-    /// Makes a stream for trials, and prints a summary of what it tells.
+    /// Makes a stream for trials, and prints a summary of what it reveals.
     Gen {
-        /// Beside the two that follow, it alone determines the stream.
+        /// It and the next two alone determine the stream.
         number: u32,
         reports: u32,
         /// How many in a hundred have a wrong share.
@@ -45,12 +45,12 @@ pub enum Command {
     /// Computes the vectors of the self test, and prints a line for each.
     SelfTest,
     /// Reads a table, and prints the groups that the stream of its reports opens, of version 1,
-    /// where these don't come in each other's way.
+    /// if these don't conflict with each other.
     Expect {
         epoch: u32,
-        /// One for each column.
+        /// One threshold for each column.
         thresholds: Thresholds,
-        /// Of it come the coins of all clients.
+        /// The coins of all clients are derived from it.
         seed: [u8; 32],
     },
     /// Reads a stream of records, and writes their book for an epoch.
@@ -61,7 +61,7 @@ pub enum Command {
     Merge {
         epoch: u32,
     },
-    /// Reads books of an epoch, and prints what the records of their sum tell.
+    /// Reads books of an epoch, and prints what the records of their sum reveal.
     OpenBook {
         epoch: u32,
         /// As those of `Reveal`.
@@ -73,7 +73,7 @@ pub enum Command {
     },
     /// Reads certificates, and prints a line for each.
     Audit,
-    /// Reads a stream of records, and prints what it tells for each epoch.
+    /// Reads a stream of records, and prints what it reveals for each epoch.
     Epochs {
         /// As those of `Reveal`.
         workers: u32,
