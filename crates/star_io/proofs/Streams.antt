@@ -14,7 +14,7 @@ use Rattle.star_io.specs.RecordLists.{stream_records, rest_after}
 use Rattle.star_io.proofs.RecordLaws.{begin_more}
 use Rattle.star_io.proofs.RecordListLaws.{only_records, rest_is, rest_none}
 
--- These are so many records at the front of the bytes, with this fact, and this is what follows them; after the last record that is nothing.
+-- These are so many records at the front of the bytes, with this fact, and this is what follows them: nothing where the reader has ended.
 pub record HasTaken (fact : List Record → Type 0) (n : ℕ) (state : ReaderState) (bytes left : List ℕ) : Type 0 where
   pub records : List Record
   pub holds : fact records
@@ -48,7 +48,8 @@ Takes old new r = (records : List Record) → old records → new (records ++ r 
 
 -- one more record was taken from the front
 one_more : (fact next : List Record → Type 0) (n : ℕ) (r : Record) (old middle new : Option (List ℕ)) (state : ReaderState)
-    → HasFed fact n state old middle → TakesRecord middle new (Some r) → Takes fact next r → HasFed next (n + 1) (state_after (Some r)) old new
+    → HasFed fact n state old middle → TakesRecord middle new (Some r) → Takes fact next r
+    → HasFed next (n + 1) (state_after (Some r)) old new
 one_more fact next n r None middle new state h t takes = tt
 one_more fact next n r (Some bytes) None new state h t takes = absurd h
 one_more fact next n r (Some bytes) (Some middle) None state h t takes = absurd t
@@ -131,13 +132,15 @@ pub last_turn : (fact : List Record → Type 0) (most n : ℕ) (state : ReaderSt
     (old middle new : Option (List ℕ)) → n ≤ most → state ≢ Broken → (state ≡ Ended → new ≡ middle)
     → (state ≡ Ready → IfOk result (TakesRecord middle new)) → result ≡ Ok None → HasFed fact n state old middle → HasAll most fact old new
 last_turn fact most n Ready result old middle new few sound same taken e h =
-    all_fed fact most n Ready old middle new few h (subst (λ (x : Result (Option Record) NextError). IfOk x (TakesRecord middle new)) e (taken refl))
+    all_fed fact most n Ready old middle new few h
+    (subst (λ (x : Result (Option Record) NextError). IfOk x (TakesRecord middle new)) e (taken refl))
 last_turn fact most n Ended result old middle new few sound same taken e h =
     subst (λ (left : Option (List ℕ)). HasAll most fact old left) (sym (same refl)) (all_at_end fact most n Ended old middle few refl h)
 last_turn fact most n Broken result old middle new few sound same taken e h = absurd (sound refl)
 
 -- as many records were taken as may be, and one byte behind them
-pub too_many : (fact : List Record → Type 0) (most : ℕ) (state : ReaderState) (old left new : Option (List ℕ)) → HasFed fact most state old left
+pub too_many : (fact : List Record → Type 0) (most : ℕ) (state : ReaderState) (old left new : Option (List ℕ))
+    → HasFed fact most state old left
     → ((bytes : List ℕ) → left ≡ Some bytes → (0 < length bytes) × (new ≡ Some (drop 1 bytes))) → (bytes : List ℕ) → old ≡ Some bytes
     → (0 < length (rest_after most bytes)) × (new ≡ Some (drop 1 (rest_after most bytes)))
 too_many fact most state None left new h more bytes is = absurd cc
@@ -145,7 +148,8 @@ too_many fact most state (Some from) None new h more bytes is = absurd h
 too_many fact most state (Some from) (Some left) new h more bytes is =
     let same : from ≡ bytes = cc in
     let rest : rest_after most bytes ≡ left =
-    ap (λ (n : ℕ). rest_after n bytes) (sym h.many) ∙ rest_is h.records bytes left (subst (λ (l : List ℕ). BeginAll h.records l left) same h.begin) in
+    ap (λ (n : ℕ). rest_after n bytes) (sym h.many)
+    ∙ rest_is h.records bytes left (subst (λ (l : List ℕ). BeginAll h.records l left) same h.begin) in
     let one = more left refl in
     (omega (arith, one.0, ap length rest), one.1 ∙ ap (λ (l : List ℕ). Some (drop 1 l)) (sym rest))
 
@@ -161,6 +165,7 @@ takes_none stands epoch before stood = rw (append-nil before) stood
 
 -- one record more
 pub takes_more : (old middle new : ℕ → List Record → Type 0) (r : Record)
-    → ((epoch : ℕ) (records : List Record) → middle epoch records → new epoch (records ++ r ∷ [])) → Takes (TakesAll old middle) (TakesAll old new) r
+    → ((epoch : ℕ) (records : List Record) → middle epoch records → new epoch (records ++ r ∷ []))
+    → Takes (TakesAll old middle) (TakesAll old new) r
 takes_more old middle new r one records all epoch before stood =
     subst (new epoch) (append_assoc before records (r ∷ [])) (one epoch (before ++ records) (all epoch before stood))

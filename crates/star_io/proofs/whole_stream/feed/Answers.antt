@@ -15,10 +15,12 @@ loop-preserved g c =
     let found = c.in-Some.found in
     let is_found : c.next.result ≡ Ok (Some found) = cc in
     let stands = g.T.RecordTaker.stands in
-    let takes = takes_more (stands c.args.taker.now) (stands c.loop.taker) (stands c.take_next.new.self) found c.in_ok-take_next-in-Some.ensures.stands in
+    let takes = takes_more (stands c.args.taker.now) (stands c.loop.taker) (stands c.take_next.new.self) found
+    c.in_ok-take_next-in-Some.ensures.stands in
     let next = turn (taken_so_far g c.args.taker.now c.loop.taker) (taken_so_far g c.args.taker.now c.take_next.new.self) c.loop.counter
     c.loop.reader c.next.new.self c.next.result found _ (g.S.Source.left c.loop.input) (g.S.Source.left c.next.new.source)
-    c.loop.invariant.sound (λ ended. (c.next.ensures.ended ended).0) c.next.ensures.next c.next.ensures.state is_found takes c.loop.invariant.fed in
+    c.loop.invariant.sound (λ ended. (c.next.ensures.ended ended).0) c.next.ensures.next c.next.ensures.state
+    is_found takes c.loop.invariant.fed in
     record {
       sound = next.1;
       count = omega (arith, c.in_ok-take_next-in-Some.ensures.taken, c.loop.invariant.count);
@@ -39,16 +41,18 @@ returns-then-eq-clause-records g c =
     elim c.then-eq.branch [
       | then-eq-via-then-eq w ↦
           let ended : c.loop.reader ≡ Ended = search rules in
-          rw w.input-is (all_at_end taken c.args.limit c.loop.counter c.loop.reader _ (g.S.Source.left c.loop.input) (omega arith) ended c.loop.invariant.fed)
+          rw w.input-is (all_at_end taken c.args.limit c.loop.counter c.loop.reader _ (g.S.Source.left c.loop.input) (omega arith) ended
+          c.loop.invariant.fed)
       | then-eq-via-else-eq+in_ok-is_at_end+then-branch w ↦
-          rw w.input-is (all_fed taken c.args.limit c.loop.counter c.loop.reader _ (g.S.Source.left c.loop.input) (g.S.Source.left w.is_at_end.new.input)
-          (omega arith) c.loop.invariant.fed (w.in_ok-is_at_end.ensures.end w.if-branch.true))
+          rw w.input-is (all_fed taken c.args.limit c.loop.counter c.loop.reader _ (g.S.Source.left c.loop.input)
+          (g.S.Source.left w.is_at_end.new.input) (omega arith) c.loop.invariant.fed (w.in_ok-is_at_end.ensures.end w.if-branch.true))
     ]
 
 pub returns-clause-too_many : goal.returns-clause-too_many
 returns-clause-too_many g c = λ _.
     let taken = taken_so_far g c.args.taker.now c.loop.taker in
     let all : c.loop.counter ≡ c.args.limit = omega arith in
-    let fed = subst (λ (n : ℕ). HasFed taken n c.loop.reader (g.S.Source.left c.args.input.now) (g.S.Source.left c.loop.input)) all c.loop.invariant.fed in
+    let fed = subst (λ (n : ℕ). HasFed taken n c.loop.reader (g.S.Source.left c.args.input.now) (g.S.Source.left c.loop.input)) all
+    c.loop.invariant.fed in
     too_many taken c.args.limit c.loop.reader _ (g.S.Source.left c.loop.input) (g.S.Source.left c.is_at_end.new.input) fed
     (c.in_ok-is_at_end.ensures.more c.if-branch.false)
