@@ -9,6 +9,7 @@ import sys
 import tempfile
 import time
 import unittest
+from collections import Counter
 
 import support
 import configuration
@@ -94,6 +95,19 @@ class Keeping(Folder):
         self.assertEqual(dict(+both), {"full": 1, "new": 3})
         self.assertEqual((len(self.kept()), store.count(self.folder, EPOCH), len(self.kept(EPOCH - 1))), (10, 10, 3))
         self.assertEqual(store.door(self.folder, EPOCH), {"known": 14, "full": 5})
+
+    def test_a_limit_within_one_round(self):
+        """Requests that waited for the disk together share the room that is left."""
+        one = self.writer(most=10)
+        put(one, fake(2))
+        lock = sqlite3.connect(store.path_of(self.folder, EPOCH), isolation_level=None)
+        lock.execute("BEGIN IMMEDIATE")
+        waits = [one.put({EPOCH: fake(4, start)}, {}) for start in range(2, 42, 4)]
+        time.sleep(.2)
+        lock.execute("ROLLBACK")
+        lock.close()
+        total = sum((wait.result(timeout=20) for wait in waits), start=Counter())
+        self.assertEqual((total["new"], total["full"], len(self.kept())), (8, 32, 10))
 
     def test_the_door_by_week(self):
         one = self.writer()
