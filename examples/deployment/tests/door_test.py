@@ -14,6 +14,7 @@ import ssl
 import subprocess
 import sys
 import tempfile
+import threading
 import time
 import unittest
 
@@ -196,6 +197,28 @@ class Door(unittest.TestCase):
         self.assertEqual(self.ask("127.0.2.50", body=support.body_of(self.data[60:61]))[0], 502)
         self.collector.start()
         self.expect_quick("127.0.2.50", 60)
+
+    def test_no_header_of_a_client_goes_on(self):
+        """A server in the collector's place sees the length and the body, and nothing that names a client."""
+        self.collector.stop()
+        seen = []
+
+        def serve(listening):
+            connection, _ = listening.accept()
+            while not seen or not seen[0].endswith(b"body"):
+                seen[:] = [b"".join(seen) + connection.recv(10_000)]
+            connection.sendall(b"HTTP/1.1 200 OK\r\nContent-Length: 2\r\nConnection: close\r\n\r\nok")
+            connection.close()
+        with socket.create_server(("127.0.0.1", COLLECTOR_PORT)) as listening:
+            server = threading.Thread(target=serve, args=(listening,))
+            server.start()
+            named = {"Cookie": "a=b", "User-Agent": "me", "Referer": "https://x/", "Origin": "https://x", "X-Forwarded-For": "127.0.2.51", "Forwarded": "x"}
+            self.assertEqual(self.ask("127.0.2.51", body=b"body", headers=named)[:2], (200, "ok"))
+            server.join(timeout=10)
+        self.collector.start()
+        head = seen[0].partition(b"\r\n\r\n")[0].decode().splitlines()
+        self.assertEqual(head[0], "POST /v1/reports HTTP/1.1")
+        self.assertEqual(sorted(head[1:]), ["Content-Length: 4", "Host: star"])
 
     def test_a_flood(self):
         """One address sends bodies of a hundred of the smallest reports, as often as it is answered."""
