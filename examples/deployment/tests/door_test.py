@@ -9,6 +9,7 @@ import contextlib
 import http.client
 import os
 import re
+import shutil
 import socket
 import ssl
 import subprocess
@@ -30,6 +31,7 @@ http {{ client_body_temp_path {0}/body; proxy_temp_path {0}/proxy; fastcgi_temp_
 server {{ listen 127.0.0.1:{2}; access_log off; set_real_ip_from 127.0.0.1; real_ip_header X-Test-Address;
           location / {{ return 200 $star_client; }} }}
 }}"""
+TYPES = {".html": "text/html", ".mjs": "text/javascript", ".css": "text/css", ".wasm": "application/wasm", ".json": "application/json"}
 MINUTES = 10
 
 
@@ -63,8 +65,11 @@ class Door(unittest.TestCase):
         os.makedirs(cls.folder)
         os.makedirs(cls.web)
         os.chmod(cls.work.name, 0o755)
-        with open(os.path.join(cls.web, "index.html"), "w", encoding="utf-8") as file:
-            file.write("<!doctype html><title>x</title>")
+        for folder in (os.path.join(support.DEPLOYMENT, "web"), os.path.join(support.ROOT, "bindings/web")):
+            for name in os.listdir(folder):
+                if name.endswith(tuple(TYPES)) and not os.path.exists(os.path.join(cls.web, name)):
+                    shutil.copy(os.path.join(folder, name), cls.web)
+        shutil.copy(os.path.join(support.DEPLOYMENT, "configuration.json"), cls.web)
         subprocess.run(["openssl", "req", "-x509", "-newkey", "rsa:2048", "-nodes", "-keyout", cls.folder + "/key.pem",
                         "-out", cls.folder + "/cert.pem", "-days", "2", "-subj", "/CN=localhost"], check=True, stderr=subprocess.DEVNULL)
         secret = subprocess.run(["openssl", "passwd", "-apr1", "secret"], check=True, stdout=subprocess.PIPE).stdout.decode()
@@ -101,7 +106,7 @@ class Door(unittest.TestCase):
         with contextlib.closing(connection):
             connection.request(method, path, body, dict(headers))
             answer = connection.getresponse()
-            return answer.status, answer.read().decode(), dict(answer.getheaders())
+            return answer.status, answer.read().decode("utf-8", "replace"), dict(answer.getheaders())
 
     def expect_quick(self, source, at):
         """Another client's report is kept within a second."""
@@ -166,6 +171,15 @@ class Door(unittest.TestCase):
         self.assertEqual(self.ask("127.0.2.22", "GET")[0], 405)
         status, text, headers = self.ask("127.0.2.23", "GET", path="/")
         self.assertEqual((status, headers["Cache-Control"]), (200, "no-cache"))
+
+    def test_files_of_the_page(self):
+        """Each with its type, without which a browser runs no module, and asked for anew each time."""
+        names = os.listdir(self.web)
+        self.assertLessEqual({"index.html", "page.mjs", "outbox.mjs", "star_client.mjs", "star_client.wasm", "configuration.json"}, set(names))
+        for number, name in enumerate(names):
+            status, _, headers = self.ask(f"127.0.3.{number + 1}", "GET", path="/" + name)
+            self.assertEqual((status, headers["Content-Type"], headers["Cache-Control"], headers["X-Content-Type-Options"]),
+                             (200, TYPES[os.path.splitext(name)[1]], "no-cache", "nosniff"), name)
 
     def test_networks_of_ipv6(self):
         for address, wanted in (("192.0.2.7", "192.0.2.7"), ("2001:db8:1:2:3:4:5:6", "six 2001:db8:1:2"), ("2001:db8:1:2::9", "six 2001:db8:1:2"),
@@ -242,7 +256,7 @@ class Door(unittest.TestCase):
                 for path in {os.path.join(folder, name) for name in names} - own:
                     with open(path, "rb") as file:
                         text = file.read().replace(b"http://127.0.0.1:%d" % COLLECTOR_PORT, b"")
-                        self.assertIsNone(re.search(rb"127\.0\.[012]\.\d+", text), path)
+                        self.assertIsNone(re.search(rb"127\.0\.[0123]\.\d+", text), path)
         with open(self.folder + "/star.log", encoding="ascii") as file:
             lines = set(file.read().splitlines())
         self.assertTrue(lines)

@@ -18,7 +18,6 @@ import time
 import support
 import markup
 import send
-import store
 import writer
 
 PORT = 18_096

@@ -2,12 +2,12 @@
 
 The collector runs under strace. From the log of its system calls the store's files are made again as they may be after a loss of power at many
 moments: what was synced by then, and a random part of the writes since, each whole or cut; once none of them and once all. All reports that were
-acknowledged by that moment have to be in them. The same collector with synchronous=NORMAL has to fail this test.
+acknowledged by that moment have to be in them, and so has the number of refusals that were. The same collector with synchronous=NORMAL has to fail
+this test.
 """
 import os
 import random
 import re
-import sqlite3
 import sys
 import tempfile
 import threading
@@ -16,6 +16,7 @@ import support
 import store
 
 PORT = 18_091
+GARBAGE = b"ST"
 CALLS = "trace=pwrite64,ftruncate,fdatasync,fsync,unlink,sendto,recvfrom"
 CALL = re.compile(r"(\w+)\((.*)\)\s+= (-?\d+)")
 NAMED = re.compile(r"^-?\w+<([^>]*)>")
@@ -118,7 +119,7 @@ def parts(rng):
 
 
 def expect_kept(files, acknowledged):
-    """Opens the files as a collector does, and expects the acknowledged reports in them."""
+    """Opens the files as a collector does, and expects in them the acknowledged reports, and a refusal for each."""
     with tempfile.TemporaryDirectory() as folder:
         for name, image in files.items():
             with open(os.path.join(folder, name), "wb") as file:
@@ -130,6 +131,8 @@ def expect_kept(files, acknowledged):
             there = set()
         assert acknowledged <= there, f"{len(acknowledged - there)} of {len(acknowledged)} acknowledged reports are lost"
         assert not acknowledged or store.count(folder, epoch) == len(there), "the count is wrong"
+        refused = store.door(folder, epoch).get("no_frame", 0)
+        assert refused >= len(acknowledged), f"{len(acknowledged) - refused} of {len(acknowledged)} acknowledged refusals are lost"
 
 
 class Connections:
@@ -150,19 +153,19 @@ class Connections:
         body = self.received.get(socket[1], b"").partition(b"\r\n\r\n")[2]
         if not (text.startswith(b"HTTP/1.1 200 OK") and body):
             return False
-        self.acknowledged.update(support.frames.records_of(body))
+        self.acknowledged.update(frame for frame in support.frames.records_of(body) if frame != GARBAGE)
         return True
 
 
 def run(work, requests, factory):
-    """Runs the collector under strace, and posts each report in a request of its own; the log of calls, and the reports."""
+    """Runs the collector under strace, and posts each report with garbage in a request; the log of calls, the reports, and the store's folder."""
     log, data = os.path.join(work, "calls"), support.reports(requests)
     before = ["strace", "-f", "-o", log, "-xx", "-s", "400000", "-y", "-e", CALLS]
     with support.Collector(PORT, folder=work, before=before, factory=factory, path=[support.HERE]) as one:
         def client(some):
             for frame in some:
-                status, text = one.post([frame])
-                assert (status, text.split()[0]) == (200, "new=1"), (status, text)
+                answer = one.post([frame, GARBAGE])
+                assert answer == (200, "new=1 known=0 full=0 refused=1"), answer
         clients = [threading.Thread(target=client, args=(data[at::6],)) for at in range(6)]
         for thread in clients:
             thread.start()
