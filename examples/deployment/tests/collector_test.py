@@ -2,6 +2,7 @@
 
 Bad input, full files, a locked and a broken database, a wrong clock, a full epoch, two collectors, and what each of these writes to the log.
 """
+import http.client
 import os
 import signal
 import socket
@@ -236,6 +237,21 @@ class Writers(unittest.TestCase):
             self.assertNotEqual(other.run.wait(timeout=60), 0)
             self.assertIn("another collector writes to", one.lines())
             self.assertEqual(one.post(DATA[:10])[0], 200)
+
+    def test_a_killed_worker(self):
+        """gunicorn starts another one, which finds the lock free, and nothing that was acknowledged is lost."""
+        with Collector(PORT) as one:
+            one.post(DATA[:50])
+            with open(f"/proc/{one.run.pid}/task/{one.run.pid}/children", encoding="ascii") as file:
+                worker, = map(int, file.read().split())
+            os.kill(worker, signal.SIGKILL)
+            for _ in range(100):
+                try:
+                    self.assertEqual(one.post(DATA[40:60]), (200, "new=10 known=10 full=0 refused=0"))
+                    break
+                except (OSError, http.client.HTTPException):
+                    time.sleep(.1)
+            self.assertEqual(kept(one), 60)
 
     def test_hup_at_the_limit(self):
         """A new worker starts while the old one still answers, with room for ten more reports: the limit holds, and nothing is lost."""

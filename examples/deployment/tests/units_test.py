@@ -66,6 +66,7 @@ class Units(unittest.TestCase):
     def test_alerts(self):
         status, said = run("promtool", "test", "rules", "alerts_test.yml")
         self.assertEqual(status, 0, said)
+        self.assertEqual(run("promtool", "check", "config", "prometheus.yml")[0], 0)
         names = set(re.findall(r"- alert: (\w+)", text_of("alerts.yml")))
         tests = re.findall(r"alertname: (\w+), exp_alerts: (\[\]|\[\{)", text_of("alerts_test.yml"))
         self.assertEqual({name for name, fires in tests if fires == "[{"}, names)
