@@ -22,6 +22,12 @@ import unittest
 import support
 import store
 
+try:
+    from selenium import webdriver
+    from selenium.webdriver.chrome.service import Service
+except ImportError:
+    webdriver = None
+
 PORT, COLLECTOR_PORT, PLAIN_PORT, PAGES_PORT = 18_443, 18_095, 18_444, 18_445
 EPOCH = support.epoch_now()
 MAIN = """daemon off; worker_processes 2; worker_rlimit_nofile 20000; pid {0}/pid; error_log {0}/main.log warn;
@@ -181,6 +187,32 @@ class Door(unittest.TestCase):
             self.assertEqual((status, headers["Content-Type"], headers["Cache-Control"], headers["X-Content-Type-Options"]),
                              (200, TYPES[os.path.splitext(name)[1]], "no-cache", "nosniff"), name)
 
+    @unittest.skipUnless(webdriver and shutil.which("chromium"), "no Chromium, or no python3-selenium")
+    def test_a_browser(self):
+        """Chromium loads the page through the shipped file, over TLS, and its report is kept."""
+        options = webdriver.ChromeOptions()
+        for word in ("--headless", "--no-sandbox", "--disable-gpu", "--ignore-certificate-errors", f"--user-data-dir={self.work.name}/profile"):
+            options.add_argument(word)
+        options.binary_location = "/usr/bin/chromium"
+        driver = webdriver.Chrome(service=Service("/usr/bin/chromedriver"), options=options)
+        try:
+            driver.get(f"https://localhost:{PORT}/")
+            self.until(lambda: driver.execute_script("return document.querySelector('form button')?.disabled") is False)
+            before = int(self.collector.metric('star_reports_total{outcome="new"}'))
+            for entry in driver.find_elements("css selector", "form input"):
+                entry.send_keys("Webland")
+            driver.find_element("css selector", "form button").click()
+            self.until(lambda: int(self.collector.metric('star_reports_total{outcome="new"}')) == before + 1)
+        finally:
+            driver.quit()
+
+    def until(self, holds):
+        """Waits for a minute at most."""
+        end = time.monotonic() + 60
+        while not holds():
+            self.assertLess(time.monotonic(), end, "it doesn't come about")
+            time.sleep(.2)
+
     def test_networks_of_ipv6(self):
         for address, wanted in (("192.0.2.7", "192.0.2.7"), ("2001:db8:1:2:3:4:5:6", "six 2001:db8:1:2"), ("2001:db8:1:2::9", "six 2001:db8:1:2"),
                                 ("2001:db8:1:2:ffff::", "six 2001:db8:1:2"), ("2001:db8:1::9", "six 2001:db8:1"), ("2001:db8::9", "six 2001:db8"),
@@ -226,7 +258,7 @@ class Door(unittest.TestCase):
         with socket.create_server(("127.0.0.1", COLLECTOR_PORT)) as listening:
             server = threading.Thread(target=serve, args=(listening,))
             server.start()
-            named = {"Cookie": "a=b", "User-Agent": "me", "Referer": "https://x/", "Origin": "https://x", "X-Forwarded-For": "127.0.2.51", "Forwarded": "x"}
+            named = {"Cookie": "a=b", "User-Agent": "me", "Referer": "https://x/", "Origin": "https://x", "X-Forwarded-For": "127.0.2.51"}
             self.assertEqual(self.ask("127.0.2.51", body=b"body", headers=named)[:2], (200, "ok"))
             server.join(timeout=10)
         self.collector.start()

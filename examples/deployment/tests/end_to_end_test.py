@@ -1,8 +1,8 @@
 """From clients to the page: /usr/bin/python3 end_to_end_test.py PROGRAM [NUMBER | --longest]. It needs gunicorn and python3-prometheus-client.
 
-NUMBER reports (100,000 unless said otherwise) of last week are made by the client of bindings/python and sent by six senders of send.py to a collector
-whose late days aren't over yet; then a report with the shipped number of late days opens that week. Its text has to be that of `reveal` on the reports
-themselves.
+NUMBER reports (100,000 unless said otherwise) of last week are made by the client of bindings/python and sent by six senders of send.py to a
+collector whose late days aren't over yet; then a report with the shipped number of late days opens that week. Its text has to be that of `reveal`
+on the reports themselves.
 
 --longest fills the store with 131,072 frames of 8,192 bytes instead, without the door, and says how much memory their report takes: at most 4 GiB.
 """
