@@ -1,6 +1,6 @@
 #!/usr/bin/env bash
-# deployment_collector.sh PROGRAM: the tests of the collector in examples/deployment that need no package: changed frames at the door beside `check`,
-# the configuration, the store with killed children, backup and restore. The others there are run by hand; each file begins with how.
+# deployment_collector.sh PROGRAM: the tests of the collector in examples/deployment that need no package: changed frames at the door compared with
+# `check`, the configuration, the store with killed children, backup and restore. The others there are run by hand; each file begins with how.
 set -e
 program=$(realpath "$1")
 cd "$(dirname "$0")/../examples/deployment/tests"

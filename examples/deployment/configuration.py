@@ -118,7 +118,7 @@ def read(text):
 
 
 def path():
-    """The file that the environment names, or else the one beside this module."""
+    """The file that the environment names, or else the one in this module's folder."""
     return os.environ.get("STAR_CONFIGURATION", os.path.join(HERE, "configuration.json"))
 
 

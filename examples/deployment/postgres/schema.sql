@@ -45,5 +45,5 @@ BEGIN
     DELETE FROM epochs WHERE epoch = of_epoch;
 END $$;
 
--- The stream of an epoch, for star_tool reveal: each report behind its length.
+-- The stream of an epoch, for star_tool reveal: each report after its length.
 --   COPY (SELECT frame FROM reports WHERE epoch = E ORDER BY frame) TO STDOUT by a client that writes frames.record(frame) for each row.

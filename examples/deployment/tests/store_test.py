@@ -226,6 +226,7 @@ class Forgetting(Folder):
             steps += 1
         self.assertGreater(steps, 6)
         self.assertEqual(self.left(), [])
+        print(f"store: forgetting killed before each of {steps} calls, and finished", file=sys.stderr)
 
     def test_a_start_finishes_it(self):
         """From the step on that moved the file, a start of the collector alone deletes all of it."""
