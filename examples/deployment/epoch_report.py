@@ -33,7 +33,7 @@ def feed(child, reports):
             for number, frame in enumerate(reports, 1):
                 child.stdin.write(frames.record(frame))
     except BrokenPipeError:
-        pass                    # it ended before it had read all, and its status says why
+        pass  # it ended before it had read all, and its status says why
     return number
 
 

@@ -6,13 +6,14 @@ from typing import NamedTuple, Optional, Tuple
 
 import star_text
 
-MOST_DRAWN = 5_000          # opened groups on a page
-MOST_OTHER = 200            # of those with other thresholds
-MOST_EXTRA = 200            # extra bytes
+MOST_DRAWN = 5_000  # opened groups on a page
+MOST_OTHER = 200  # of those with other thresholds
+MOST_EXTRA = 200  # extra bytes
 
 
 class Plan(NamedTuple):
     """How the clients of an epoch were told to make reports."""
+
     thresholds: Tuple[int, ...]
     version: int = 1
 
@@ -24,12 +25,13 @@ class Plan(NamedTuple):
 @dataclass
 class Node:
     """An opened group; the root, with no path, stands for all reports of the epoch."""
+
     path: tuple = ()
     points: int = 0
     agree: int = 0
     members: int = 0
-    other: bool = False         # it, or a group above it, isn't of the plan
-    below: int = 0              # members of the opened groups one level down, and of those among them that aren't of the plan
+    other: bool = False  # it, or a group above it, isn't of the plan
+    below: int = 0  # members of the opened groups one level down, and of those among them that aren't of the plan
     below_other: int = 0
     below_count: int = 0
     children: list = field(default_factory=list)
@@ -60,6 +62,7 @@ class Node:
 @dataclass
 class Summary:
     """The text of an epoch. `groups`, `others` and `extras` are the first of `opened`, `opened_other` and `extra_count`."""
+
     root: Node
     groups: list
     others: list
@@ -159,8 +162,20 @@ def summarize(lines, plan=None, most=MOST_DRAWN):
         else:
             counts = line
     root = tree.root(counts.rows)
-    return Summary(root, tree.planned.nodes(), tree.others.nodes(), tree.planned.count + tree.others.count, tree.others.count, tree.wrong_points,
-                   levels, refused, extras, extra_count, counts.records, counts.rows)
+    return Summary(
+        root,
+        tree.planned.nodes(),
+        tree.others.nodes(),
+        tree.planned.count + tree.others.count,
+        tree.others.count,
+        tree.wrong_points,
+        levels,
+        refused,
+        extras,
+        extra_count,
+        counts.records,
+        counts.rows,
+    )
 
 
 def of_file(path, plan=None, most=MOST_DRAWN):

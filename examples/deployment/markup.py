@@ -18,8 +18,11 @@ def joined(parts):
 
 def element(name, *inner, **attributes):
     """An element. An attribute's name may end with _ (class_), and _ in it is a hyphen; one that is None or False is left out."""
-    words = "".join(' %s="%s"' % (key.rstrip("_").replace("_", "-"), html.escape("" if value is True else str(value)))
-                    for key, value in attributes.items() if value is not None and value is not False)
+    words = "".join(
+        ' %s="%s"' % (key.rstrip("_").replace("_", "-"), html.escape("" if value is True else str(value)))
+        for key, value in attributes.items()
+        if value is not None and value is not False
+    )
     return Markup("<%s%s>%s</%s>" % (name, words, joined(inner), name))
 
 
@@ -37,7 +40,11 @@ def spelled(value):
 def shown(value):
     """A value as HTML. It can't change the direction of what is around it, and is marked if it is spelled."""
     text, plain = spelled(value)
-    return element("bdi", text) if plain else element("bdi", text, class_="raw", title="not plain text: bytes are written as \\x.., characters as \\u{..}")
+    return (
+        element("bdi", text)
+        if plain
+        else element("bdi", text, class_="raw", title="not plain text: bytes are written as \\x.., characters as \\u{..}")
+    )
 
 
 def number(n):
@@ -52,13 +59,13 @@ def counted(n, one, many=None):
 
 def percent(part, whole):
     """A share of a whole that isn't 0."""
-    digits = 0 if part >= .0995 * whole or not part else 1 if part >= .001 * whole else 3
+    digits = 0 if part >= 0.0995 * whole or not part else 1 if part >= 0.001 * whole else 3
     return "%.*f\u202f%%" % (digits, 100 * part / whole)
 
 
 def fitted(text, width, size):
     """As much of a text as fits into a width at a font size, by an estimate; nothing if that would be less than three letters."""
-    room, kept = width / (size * .62), ""
+    room, kept = width / (size * 0.62), ""
     for c in text:
         room -= 2 if unicodedata.east_asian_width(c) in "WF" else 0 if unicodedata.combining(c) else 1
         if room < 0:

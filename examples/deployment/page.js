@@ -2,7 +2,10 @@
 const table = document.querySelector("table.all");
 if (table) {
   const body = table.tBodies[0];
-  const key = (row, i) => { const cell = row.cells[i]; return cell.className === "n" ? Number(cell.textContent.replaceAll("\u202f", "")) : cell.textContent; };
+  const key = (row, i) => {
+    const cell = row.cells[i];
+    return cell.className === "n" ? Number(cell.textContent.replaceAll("\u202f", "")) : cell.textContent;
+  };
   [...table.tHead.rows[0].cells].forEach((head, i) => head.firstElementChild.addEventListener("click", () => {
     const sorted = head.getAttribute("aria-sort"), down = sorted !== "descending" && (sorted === "ascending" || head.className === "n");
     for (const other of table.tHead.rows[0].cells) other.removeAttribute("aria-sort");

@@ -65,10 +65,15 @@ class PageFolder:
 
     def epochs(self):
         """The epochs that have a text, in ascending order."""
-        return sorted(int(name) for name, dot, kind in (entry.partition(".") for entry in os.listdir(self.path)) if kind == "txt" and name.isdecimal())
+        return sorted(
+            int(name) for name, dot, kind in (entry.partition(".") for entry in os.listdir(self.path)) if kind == "txt" and name.isdecimal()
+        )
 
     def take_text(self, name, records, fewer=False):
-        """Checks a new text, and takes it; its counts. WorseText if it has other records or the old one more reports; NotTheText if it isn't a text."""
+        """Checks a new text, and takes it; its counts.
+
+        WorseText if it has other records than so many, or the old one more reports; NotTheText if it isn't a text.
+        """
         with open(self.new(name, "txt"), "rb") as file:
             for counts in star_text.lines(file):
                 pass
@@ -102,7 +107,9 @@ class PageFolder:
         summary = epoch_summary.of_file(self.at(name, "txt"), plan)
         about = self._about(name, epoch, terms, door)
         self.write(name, "html", page.epoch_page(summary, about))
-        self.write(name, "json", json.dumps({"text": mark, "epoch": epoch, "terms": terms, "door": door, "week": _plain(page.week_of(summary, about))}))
+        self.write(
+            name, "json", json.dumps({"text": mark, "epoch": epoch, "terms": terms, "door": door, "week": _plain(page.week_of(summary, about))})
+        )
 
     def _about(self, name, epoch, terms, door):
         made = datetime.datetime.fromtimestamp(os.path.getmtime(self.at(name, "txt")), datetime.timezone.utc)
@@ -116,7 +123,9 @@ class PageFolder:
         try:
             with open(self.at(name, "json"), encoding="utf-8") as file:
                 found = json.load(file)
-            found["fresh"] = found["text"] == self.mark(name) and os.path.exists(self.at(name, "html")) and {"epoch", "week", "terms", "door"} <= set(found)
+            found["fresh"] = (
+                found["text"] == self.mark(name) and os.path.exists(self.at(name, "html")) and {"epoch", "week", "terms", "door"} <= set(found)
+            )
             return found
         except (OSError, ValueError, KeyError, TypeError):
             return {"fresh": False, "terms": None, "door": None}

@@ -12,7 +12,7 @@ def squares(sizes, x, y, w, h):
         return
     scale, at = w * h / sum(sizes), 0
     while at < len(sizes):
-        row = _row([size * scale for size in sizes[at:at + 400]], min(w, h))
+        row = _row([size * scale for size in sizes[at : at + 400]], min(w, h))
         thick, along = sum(row) / min(w, h), 0
         for area in row:
             long = area / thick
@@ -29,7 +29,7 @@ def _row(areas, short):
     total, best = 0, None
     for place, area in enumerate(areas):
         total += area
-        worst = max(max(short * short * one / total ** 2, total ** 2 / (short * short * one)) for one in (areas[0], area))
+        worst = max(max(short * short * one / total**2, total**2 / (short * short * one)) for one in (areas[0], area))
         if best is not None and worst > best:
             return areas[:place]
         best = worst
@@ -39,6 +39,7 @@ def _row(areas, short):
 @dataclass
 class TreeMap:
     """Areas within areas. `least` is the least side of a box that is drawn, in the units of the width."""
+
     width: float
     height: float
     least: float
@@ -49,10 +50,25 @@ class TreeMap:
     def svg(self, root):
         """The picture of the groups below the root."""
         self._parts(root, 0, "", (0, 0, self.width, self.height), "")
-        hatch = element("pattern", element("rect", width=6, height=6, class_="hatch-ground"), element("rect", width=2, height=6, class_="hatch-line"),
-                        id=self.name + "-hatch", width=6, height=6, patternUnits="userSpaceOnUse", patternTransform="rotate(45)")
-        return element("svg", element("defs", hatch), *self.drawn, viewBox="0 0 %g %g" % (self.width, self.height), class_="map " + self.name, role="img",
-                       aria_label="areas of the opened prefixes; the same numbers are in the lists below")
+        hatch = element(
+            "pattern",
+            element("rect", width=6, height=6, class_="hatch-ground"),
+            element("rect", width=2, height=6, class_="hatch-line"),
+            id=self.name + "-hatch",
+            width=6,
+            height=6,
+            patternUnits="userSpaceOnUse",
+            patternTransform="rotate(45)",
+        )
+        return element(
+            "svg",
+            element("defs", hatch),
+            *self.drawn,
+            viewBox="0 0 %g %g" % (self.width, self.height),
+            class_="map " + self.name,
+            role="img",
+            aria_label="areas of the opened prefixes; the same numbers are in the lists below"
+        )
 
     def _parts(self, node, level, colour, box, above):
         """Fills a box with the parts of a node: its children, what is opened and not drawn, what is of another plan, what stayed shut."""
@@ -82,7 +98,9 @@ class TreeMap:
         self.drawn.append(box)
         label = "%s %s" % (kind, number(members))
         if h > 24 and fitted(label, w - 14, 11) == label:
-            self.drawn.append(element("rect", x="%.1f" % (x + 3), y="%.1f" % (y + 3), width="%.1f" % (7 + 6.5 * len(label)), height=17, rx=2, class_="label-ground"))
+            self.drawn.append(
+                element("rect", x="%.1f" % (x + 3), y="%.1f" % (y + 3), width="%.1f" % (7 + 6.5 * len(label)), height=17, rx=2, class_="label-ground")
+            )
             self.drawn.append(element("text", label, x="%.1f" % (x + 6), y="%.1f" % (y + 15), font_size=11, class_="soft"))
 
     def _box(self, node, level, colour, rect, above):
@@ -94,8 +112,8 @@ class TreeMap:
         label = fitted(text, w - 8, size * (1.13 if level == 0 else 1)) if h > size + 5 else ""
         place = {"x": "%.1f" % x, "y": "%.1f" % y, "width": "%.1f" % w, "height": "%.1f" % h}
         title = element("title", "%s: %s" % (name, number(node.members)))
-        self.drawn.append(element("rect", title, rx=2, fill=colour, fill_opacity=(.2, .26, .3)[min(level, 2)], class_="box", **place))
-        if label:       # an svg within an svg cuts off what is wider than it, whatever a letter's width is
+        self.drawn.append(element("rect", title, rx=2, fill=colour, fill_opacity=(0.2, 0.26, 0.3)[min(level, 2)], class_="box", **place))
+        if label:  # an svg within an svg cuts off what is wider than it, whatever a letter's width is
             self.drawn.append(element("svg", title, *self._label(node, label, size, (w, h), level), **place))
         top = size + 6 if label else 2
         self._parts(node, level + 1, colour, (x + 2, y + top, w - 4, h - top - 2), name)
@@ -137,4 +155,6 @@ def line_plot(pairs, first, last, colour, width=330, height=84):
     for epoch, n in pairs:
         x, y = place(epoch, n)
         out.append(element("circle", element("title", "epoch %d: %s" % (epoch, number(n))), cx="%.1f" % x, cy="%.1f" % y, r=2.6, fill=colour))
-    return element("svg", *out, viewBox="0 0 %d %d" % (width, height), class_="line", role="img", aria_label="reports by week, at most %s" % number(top))
+    return element(
+        "svg", *out, viewBox="0 0 %d %d" % (width, height), class_="line", role="img", aria_label="reports by week, at most %s" % number(top)
+    )

@@ -28,9 +28,9 @@ import configuration
 import frames
 import weeks
 
-BATCH = 100                 # reports of a request
-MOST = 100_000              # reports that wait; the oldest is dropped for a new one
-LATER = 3_600               # seconds until reports of a full epoch are sent again
+BATCH = 100  # reports of a request
+MOST = 100_000  # reports that wait; the oldest is dropped for a new one
+LATER = 3_600  # seconds until reports of a full epoch are sent again
 OUTCOMES = ("new", "known", "full", "refused")
 
 
@@ -48,7 +48,7 @@ class Never(Exception):
 
 class _NoRedirect(urllib.request.HTTPRedirectHandler):
     def redirect_request(self, *what):
-        return None                 # a redirected POST would go on as a GET, without its reports
+        return None  # a redirected POST would go on as a GET, without its reports
 
 
 def counts_of(answer, number):
@@ -67,7 +67,10 @@ def _seconds(text):
 
 
 class Sender:
-    """Keeps reports until they are kept elsewhere. `counts` has what came of those that were sent; `given_up` and `dropped` were not kept by anyone."""
+    """Keeps reports until they are kept elsewhere.
+
+    `counts` has what came of those that were sent; `given_up` and `dropped` are numbers of reports that nobody kept.
+    """
 
     def __init__(self, url, most=MOST, timeout=30, opener=None):
         self._url, self._most, self._timeout = url, most, timeout
@@ -93,14 +96,14 @@ class Sender:
     def flush(self, patience=60):
         """Sends what waits, and tries again until nothing waits or so many seconds are over. Whether nothing waits."""
         with self._sending:
-            end, pause = time.monotonic() + patience, .5
+            end, pause = time.monotonic() + patience, 0.5
             while self._first(1):
                 now = time.monotonic()
                 after = self._not_before - now if now < self._not_before else self._send_one()
                 if after is None:
-                    pause = .5
+                    pause = 0.5
                     continue
-                wait = max(after, random.uniform(.5, 1) * pause)
+                wait = max(after, random.uniform(0.5, 1) * pause)
                 if now + wait > end:
                     return False
                 time.sleep(wait)

@@ -44,8 +44,21 @@ EXTRA = re.compile(rb"aux N N (".replace(b"N", NUMBER) + SPELLED + rb"+)")
 COUNTS = re.compile(rb"records=N rows=N refused=N".replace(b"N", NUMBER))
 SPELLING = [bytes([byte]) if re.match(SPELLED, bytes([byte])) else b"%%%02X" % byte for byte in range(256)]
 
-FAULTS = {"TooLong", "Truncated", "Magic", "Version", "Level", "Threshold", "Point", "Share", "BoxLength", "BodyLength", "Trailing",
-          "WrongEpoch", "WrongLevel"}
+FAULTS = {
+    "TooLong",
+    "Truncated",
+    "Magic",
+    "Version",
+    "Level",
+    "Threshold",
+    "Point",
+    "Share",
+    "BoxLength",
+    "BodyLength",
+    "Trailing",
+    "WrongEpoch",
+    "WrongLevel",
+}
 OUTER = FAULTS | {"CutLength", "CutRecord"}
 INNER = FAULTS | {"Seal", "BodyTail", "BodyKind", "WrongVersion"}
 
@@ -56,6 +69,7 @@ class NotTheText(ValueError):
 
 class Step(NamedTuple):
     """One value of a path, with the threshold that its clients set and the version of their reports."""
+
     value: bytes
     threshold: int
     version: int
@@ -63,6 +77,7 @@ class Step(NamedTuple):
 
 class Opened(NamedTuple):
     """An opened group: its values from the outermost on, its points, those that agree, and its reports."""
+
     path: Tuple[Step, ...]
     points: int
     agree: int
@@ -71,6 +86,7 @@ class Opened(NamedTuple):
 
 class Level(NamedTuple):
     """How many groups of a level had which outcome."""
+
     level: int
     opened: int
     few: int
@@ -80,6 +96,7 @@ class Level(NamedTuple):
 
 class Refused(NamedTuple):
     """A refused record: `stage` is None before any group, and otherwise the level of the group."""
+
     record: int
     stage: Optional[int]
     name: str
@@ -87,6 +104,7 @@ class Refused(NamedTuple):
 
 class Extra(NamedTuple):
     """The extra bytes of the report of a record, from a group of this level."""
+
     record: int
     level: int
     value: bytes
@@ -94,6 +112,7 @@ class Extra(NamedTuple):
 
 class Counts(NamedTuple):
     """The last line: all records, those that are reports of the epoch, and those that were refused."""
+
     records: int
     rows: int
     refused: int
@@ -103,16 +122,21 @@ class Reader:
     """Takes a text line by line, in order, and checks each line by itself and against the lines before it."""
 
     def __init__(self):
-        self._branch = []           # of the last opened group: [the path as bytes, Opened, the members of the groups below it so far]
-        self._first = 0             # members of all groups of level 0
-        self._opened = []           # opened groups by level
+        self._branch = []  # of the last opened group: [the path as bytes, Opened, the members of the groups below it so far]
+        self._first = 0  # members of all groups of level 0
+        self._opened = []  # opened groups by level
         self._levels = []
         self._refused = self._outer = 0
         self._last = {Refused: -1, Extra: -1}
-        self._highest = -1          # number of a record
-        self._stage = 0             # kinds of lines ascend: open, level, refused, aux, records
-        self._kinds = [(b"open ", self._open), (b"level ", self._level), (b"refused ", self._refusal), (b"aux ", self._extra),
-                       (b"records=", self._counts)]
+        self._highest = -1  # number of a record
+        self._stage = 0  # kinds of lines ascend: open, level, refused, aux, records
+        self._kinds = [
+            (b"open ", self._open),
+            (b"level ", self._level),
+            (b"refused ", self._refusal),
+            (b"aux ", self._extra),
+            (b"records=", self._counts),
+        ]
 
     @property
     def whole(self):
@@ -133,12 +157,11 @@ class Reader:
         depth, step = above.count(b"/"), _step(step)
         self._check_place(above, depth, step)
         found = Opened((self._branch[depth - 1][1].path if depth else ()) + (step,), *map(int, numbers))
-        if not (step.threshold <= found.points and found.agree <= found.points <= found.members
-                and 2 * found.agree >= found.points + step.threshold):
+        if not (step.threshold <= found.points and found.agree <= found.points <= found.members and 2 * found.agree >= found.points + step.threshold):
             raise ValueError("no opened group has these numbers")
         self._count_below(depth, found.members)
         del self._branch[depth:]
-        self._branch.append([line[5:line.index(b" ", 5)] + b"/", found, 0])
+        self._branch.append([line[5 : line.index(b" ", 5)] + b"/", found, 0])
         if depth == len(self._opened):
             self._opened.append(0)
         self._opened[depth] += 1
@@ -275,7 +298,9 @@ def as_json(found):
     kind = {Opened: "open", Level: "level", Refused: "refused", Extra: "aux", Counts: "counts"}[type(found)]
     what = {"kind": kind, **found._asdict()}
     if kind == "open":
-        what["path"] = [{"value": text_of(step.value), "hex": step.value.hex(), "threshold": step.threshold, "version": step.version} for step in found.path]
+        what["path"] = [
+            {"value": text_of(step.value), "hex": step.value.hex(), "threshold": step.threshold, "version": step.version} for step in found.path
+        ]
     elif kind == "refused" and found.stage is None:
         what["stage"] = "outer"
     elif kind == "aux":
@@ -293,7 +318,17 @@ def as_row(opened):
     if text[:1] in tuple("=+-@\t\r\n"):
         text = ""
     path = "/".join(spelling(one.value).decode() + "~%d%s" % (one.threshold, "~2" if one.version == 2 else "") for one in opened.path)
-    return [len(opened.path) - 1, step.threshold, step.version, opened.points, opened.agree, opened.members, text, spelling(step.value).decode(), path]
+    return [
+        len(opened.path) - 1,
+        step.threshold,
+        step.version,
+        opened.points,
+        opened.agree,
+        opened.members,
+        text,
+        spelling(step.value).decode(),
+        path,
+    ]
 
 
 def convert(source, target, as_csv):

@@ -32,11 +32,13 @@ trap 'exit 130' INT
 trap 'exit 143' TERM
 
 mkdir -p "$folder"/{store,pages,web,nginx}
-cp web/*.html web/*.mjs web/*.css configuration.json "$top"/bindings/web/{star_client.mjs,normal.mjs,star_client.wasm,star_client_32.wasm} "$folder/web/"
+cp web/*.html web/*.mjs web/*.css configuration.json "$folder/web/"
+cp "$top"/bindings/web/{star_client.mjs,normal.mjs,star_client.wasm,star_client_32.wasm} "$folder/web/"
 export STAR_STORE=$folder/store STAR_PAGES=$folder/pages STAR_CONFIGURATION=$folder/web/configuration.json PYTHONDONTWRITEBYTECODE=1
 export STAR_TOOL=${STAR_TOOL:-$top/dist/x86_64-linux/star_tool}
 
-gunicorn --worker-class gthread --workers 1 --threads 8 --graceful-timeout 5 --bind "127.0.0.1:$((port + 1))" --log-level warning 'collector:application()' &
+gunicorn --worker-class gthread --workers 1 --threads 8 --graceful-timeout 5 --bind "127.0.0.1:$((port + 1))" --log-level warning \
+    'collector:application()' &
 children+=($!)
 sed -e "s#FOLDER#$folder#g; s#127.0.0.1:PORT#127.0.0.1:$port#; s#COLLECTOR#127.0.0.1:$((port + 1))#" try_nginx.conf > "$folder/nginx/conf"
 nginx -e "$folder/nginx/errors" -p "$folder/nginx" -c "$folder/nginx/conf" &
@@ -52,9 +54,11 @@ echo "All weeks:  $address/pages/index.html"
 echo "Metrics:    http://127.0.0.1:$((port + 1))/metrics"
 echo "Files:      $folder"
 echo "Ctrl-C ends all of it."
-if [ -n "${DISPLAY:-}${WAYLAND_DISPLAY:-}" ] && command -v xdg-open > /dev/null; then xdg-open "$address/pages/preview.html" > /dev/null 2>&1 || true; fi
+if [ -n "${DISPLAY:-}${WAYLAND_DISPLAY:-}" ] && command -v xdg-open > /dev/null; then
+    xdg-open "$address/pages/preview.html" > /dev/null 2>&1 || true
+fi
 
-counted() { /usr/bin/python3 -c 'import os, store; print([store.count(os.environ["STAR_STORE"], epoch) for epoch in store.epochs(os.environ["STAR_STORE"])])'; }
+counted() { /usr/bin/python3 -c 'import os, store; at = os.environ["STAR_STORE"]; print([store.count(at, epoch) for epoch in store.epochs(at)])'; }
 last=$(counted)
 while kill -0 "${children[@]}" 2> /dev/null; do
     sleep 3 & wait $! || true

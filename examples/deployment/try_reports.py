@@ -11,12 +11,20 @@ from selenium.common.exceptions import WebDriverException
 from selenium.webdriver.chrome.service import Service
 
 # What the first hundred visitors report: with thresholds 20 and 10, Norway, Tonga and three cities stay shut.
-VISITORS = ([("Germany", "Berlin")] * 20 + [("Germany", "Hamburg")] * 12 + [("Germany", "Köln")] * 8 + [("Germany", "Jena")] * 5 + [("Kenya", "Nairobi")] * 18
-            + [("Kenya", "Mombasa")] * 12 + [("Norway", "Bergen")] * 16 + [("Tonga", "Neiafu")] * 9)
+VISITORS = (
+    [("Germany", "Berlin")] * 20
+    + [("Germany", "Hamburg")] * 12
+    + [("Germany", "Köln")] * 8
+    + [("Germany", "Jena")] * 5
+    + [("Kenya", "Nairobi")] * 18
+    + [("Kenya", "Mombasa")] * 12
+    + [("Norway", "Bergen")] * 16
+    + [("Tonga", "Neiafu")] * 9
+)
 
 # Fills the form as a visitor does, and waits until the page has said what became of the report.
 REPORTS = """
-const [visitors, done] = arguments, said = document.getElementById("said"), form = document.getElementById("form"), send = document.getElementById("send");
+const [visitors, done] = arguments, byId = (id) => document.getElementById(id), said = byId("said"), form = byId("form"), send = byId("send");
 (async () => {
   for (const values of visitors) {
     [...document.querySelectorAll("#fields input")].forEach((input, i) => { input.value = values[i]; });
@@ -57,9 +65,9 @@ def load(driver, address, patience=60):
         except WebDriverException:
             if time.monotonic() > end:
                 raise
-            time.sleep(.2)
+            time.sleep(0.2)
     while time.monotonic() < end and driver.execute_script("return document.documentElement.dataset.ready") != "yes":
-        time.sleep(.1)
+        time.sleep(0.1)
     return driver.execute_script("return document.documentElement.dataset.ready || document.getElementById('said').textContent")
 
 

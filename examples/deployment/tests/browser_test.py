@@ -35,7 +35,7 @@ class Site(http.server.ThreadingHTTPServer):
         super().__init__(("127.0.0.1", 0), Handler)
         self.folder, self.asked = folder, []
         self.reset()
-        threading.Thread(target=self.serve_forever, args=(.05,), daemon=True).start()
+        threading.Thread(target=self.serve_forever, args=(0.05,), daemon=True).start()
 
     def reset(self):
         """A collector that keeps all, and no file that is missing or slow."""
@@ -43,7 +43,7 @@ class Site(http.server.ThreadingHTTPServer):
         self.asked.clear()
 
     def handle_error(self, request, address):
-        if not isinstance(sys.exc_info()[1], ConnectionError):          # a browser that leaves a page cuts its connections
+        if not isinstance(sys.exc_info()[1], ConnectionError):  # a browser that leaves a page cuts its connections
             super().handle_error(request, address)
 
     @property
@@ -114,7 +114,7 @@ def wait_for(what, patience=30):
     end = time.monotonic() + patience
     while not what():
         assert time.monotonic() < end, "nothing came of it"
-        time.sleep(.05)
+        time.sleep(0.05)
 
 
 FILL = "const [values] = arguments; [...document.querySelectorAll('#fields input')].forEach((input, i) => { input.value = values[i]; });"
@@ -131,17 +131,25 @@ def forget(driver):
 
 def check_not_ready(driver, site):
     """Without its script, its module, its wasm or its configuration, and before it is ready, the form sends nothing and says why."""
-    for missing, words in (("page.mjs", "script"), ("outbox.mjs", "script"), ("star_client.mjs", "script"), ("configuration.json", "configuration"), ("star_client", "can't make reports")):
+    for missing, words in (
+        ("page.mjs", "script"),
+        ("outbox.mjs", "script"),
+        ("star_client.mjs", "script"),
+        ("configuration.json", "configuration"),
+        ("star_client", "can't make reports"),
+    ):
         site.reset()
         site.missing = {missing} if missing != "star_client" else {"star_client.wasm", "star_client_32.wasm"}
         driver.get(site.address)
         if words != "script":
             wait_for(lambda: "can't" in said(driver))
-        time.sleep(.3)
+        time.sleep(0.3)
         where = driver.execute_script(HASTE)
-        time.sleep(.3)
+        time.sleep(0.3)
         assert words in said(driver) and "sen" in said(driver) and where == site.address, (missing, said(driver), where)
-        assert driver.execute_script("return document.getElementById('send').disabled") and not [one for one in site.sent() if one[0] == "POST" or "?" in one[1]], site.sent()
+        assert driver.execute_script("return document.getElementById('send').disabled") and not [
+            one for one in site.sent() if one[0] == "POST" or "?" in one[1]
+        ], site.sent()
     site.reset()
     site.slow = {"star_client.wasm": 2, "star_client_32.wasm": 2}
     driver.get(site.address)
@@ -168,10 +176,14 @@ def check_values(driver, site):
     assert driver.execute_script("return document.getElementById('send').disabled")
     assert try_reports.load(driver, site.address) == "yes" and "have reported" in said(driver)
     driver.execute_script(SUBMIT, ["Germany", "Bonn"])
-    time.sleep(.3)
+    time.sleep(0.3)
     assert len(site.kept) == 1
     driver.execute_script("localStorage.clear(); document.getElementById('never').click()")
-    assert try_reports.load(driver, site.address) == "yes" and "not to be asked" in said(driver) and driver.execute_script("return document.getElementById('send').disabled")
+    assert (
+        try_reports.load(driver, site.address) == "yes"
+        and "not to be asked" in said(driver)
+        and driver.execute_script("return document.getElementById('send').disabled")
+    )
     forget(driver)
 
 
@@ -189,7 +201,7 @@ def check_away(driver, site):
         try_reports.load(driver, site.address + "?trial")
         wait_for(lambda: len(site.kept) == 40)
         wait_for(lambda: "has 40 reports" in said(driver))
-        assert site.bodies in ([40], [40, 40]), site.bodies             # a page that is left sends, too
+        assert site.bodies in ([40], [40, 40]), site.bodies  # a page that is left sends, too
     site.answer = (200, b"new=0 known=0 full=0 refused=1\n")
     driver.execute_script(SUBMIT, ["Germany", "Bonn"])
     wait_for(lambda: "refused 1 report" in said(driver))
@@ -232,8 +244,10 @@ def has_alert(driver):
     return True
 
 
-LOOK = """return [document.title, document.querySelectorAll('script').length, document.querySelectorAll('img,iframe,object,embed,base,form,link:not([rel=icon])').length,
-[...document.querySelectorAll('*')].filter((e) => [...e.attributes].some((a) => a.name.startsWith('on'))).length, performance.getEntriesByType('resource').length,
+LOOK = """const number = (what) => document.querySelectorAll(what).length;
+const active = [...document.querySelectorAll('*')].filter((e) => [...e.attributes].some((a) => a.name.startsWith('on')));
+return [document.title, number('script'), number('img,iframe,object,embed,base,form,link:not([rel=icon])'), active.length,
+performance.getEntriesByType('resource').length,
 getComputedStyle(document.querySelector('main')).display, document.documentElement.scrollWidth <= innerWidth]"""
 
 
@@ -251,7 +265,8 @@ def check_pages(driver, folder):
     assert not console, console
 
 
-SORT = """const heads = document.querySelectorAll('table.all th button'), first = () => document.querySelector('table.all tbody tr').cells[0].textContent, out = [first()];
+SORT = """const first = () => document.querySelector('table.all tbody tr').cells[0].textContent, out = [first()];
+const heads = document.querySelectorAll('table.all th button');
 for (const i of [0, 0, 3, 3]) { heads[i].click(); out.push(first()); }
 const box = document.querySelector('input'); box.value = 'country 03'; box.dispatchEvent(new Event('input'));
 out.push([...document.querySelectorAll('table.all tbody tr')].filter((row) => !row.hidden).length); return out;"""

@@ -7,8 +7,16 @@ import subprocess
 import tempfile
 import time
 
-PREFERENCES = {"marionette.port": 0, "browser.shell.checkDefaultBrowser": False, "datareporting.policy.dataSubmissionEnabled": False, "app.update.enabled": False,
-               "toolkit.telemetry.enabled": False, "network.captive-portal-service.enabled": False, "browser.startup.page": 0, "network.connectivity-service.enabled": False}
+PREFERENCES = {
+    "marionette.port": 0,
+    "browser.shell.checkDefaultBrowser": False,
+    "datareporting.policy.dataSubmissionEnabled": False,
+    "app.update.enabled": False,
+    "toolkit.telemetry.enabled": False,
+    "network.captive-portal-service.enabled": False,
+    "browser.startup.page": 0,
+    "network.connectivity-service.enabled": False,
+}
 
 
 def free_port():
@@ -23,7 +31,12 @@ class Firefox:
             for name, value in {**PREFERENCES, "marionette.port": port, "ui.systemUsesDarkTheme": int(dark), **preferences}.items():
                 file.write("user_pref(%s, %s);\n" % (json.dumps(name), json.dumps(value)))
         surroundings = dict(os.environ, HOME=self.profile, MOZ_HEADLESS="1", MOZ_CRASHREPORTER_DISABLE="1")
-        self._child = subprocess.Popen(["firefox-esr", "--marionette", "--no-remote", "--profile", self.profile], env=surroundings, stdout=subprocess.DEVNULL, stderr=subprocess.DEVNULL)
+        self._child = subprocess.Popen(
+            ["firefox-esr", "--marionette", "--no-remote", "--profile", self.profile],
+            env=surroundings,
+            stdout=subprocess.DEVNULL,
+            stderr=subprocess.DEVNULL,
+        )
         self._id, self._wire = 0, self._connected(port)
         self._message()
         self.capabilities = self._ask("WebDriver:NewSession", capabilities={"alwaysMatch": {"unhandledPromptBehavior": "ignore"}})["capabilities"]
@@ -34,7 +47,7 @@ class Firefox:
             try:
                 return socket.create_connection(("127.0.0.1", port), timeout=310)
             except OSError:
-                time.sleep(.1)
+                time.sleep(0.1)
         raise SystemExit("Firefox doesn't answer")
 
     def _message(self):
@@ -76,6 +89,7 @@ class Firefox:
 
     def save_screenshot(self, path):
         import base64
+
         with open(path, "wb") as file:
             file.write(base64.b64decode(self._ask("WebDriver:TakeScreenshot", full=False)["value"]))
 

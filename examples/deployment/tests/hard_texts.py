@@ -10,9 +10,32 @@ import page  # noqa: E402
 import star_text  # noqa: E402
 
 PLAN = epoch_summary.Plan((20, 10))
-HOSTILE = ["<script>document.title='owned'</script>", "\"><img src=x onerror=alert(1)>", "</title></svg><svg onload=alert(1)>", "'; DROP TABLE reports;--", b"\xff\xfe\x00\x80binary", "\u202egnp.exe",
-           "日本語の値", "العربية", "  two  blanks ", "new\nline", "a" * 64, "é" * 32, "Z\u0351\u0348\u0353a\u0351\u0348l\u0351go", "%41%42", "{{7*7}}${7*7}", "&lt;b&gt;", "\x1b[31mred", "a/b~3",
-           "👩‍👩‍👧‍👦 family", "javascript:alert(1)", "</style><style>*{display:none}", "<!-- x --><base href=//example.invalid>", "\ufdfd" * 8, "=cmd|' /C calc'!A0"]
+HOSTILE = [
+    "<script>document.title='owned'</script>",
+    "\"><img src=x onerror=alert(1)>",
+    "</title></svg><svg onload=alert(1)>",
+    "'; DROP TABLE reports;--",
+    b"\xff\xfe\x00\x80binary",
+    "\u202egnp.exe",
+    "日本語の値",
+    "العربية",
+    "  two  blanks ",
+    "new\nline",
+    "a" * 64,
+    "é" * 32,
+    "Z\u0351\u0348\u0353a\u0351\u0348l\u0351go",
+    "%41%42",
+    "{{7*7}}${7*7}",
+    "&lt;b&gt;",
+    "\x1b[31mred",
+    "a/b~3",
+    "👩‍👩‍👧‍👦 family",
+    "javascript:alert(1)",
+    "</style><style>*{display:none}",
+    "<!-- x --><base href=//example.invalid>",
+    "\ufdfd" * 8,
+    "=cmd|' /C calc'!A0",
+]
 
 
 def opened(path, members, points=None, agree=None, thresholds=(20, 10)):
@@ -59,17 +82,30 @@ def deep(levels):
 
 def hostile():
     groups = [([value], (900 - 7 * i,)) for i, value in enumerate(HOSTILE)] + [([HOSTILE[0], value], (30,)) for value in HOSTILE]
-    return whole(groups, 25_000, [(9, 0, 0), (3, 0, 0)], extra="".join("aux %d 1 %s\n" % (i, star_text.spelling(key([value])[0]).decode()) for i, value in enumerate(HOSTILE)))
+    return whole(
+        groups,
+        25_000,
+        [(9, 0, 0), (3, 0, 0)],
+        extra="".join("aux %d 1 %s\n" % (i, star_text.spelling(key([value])[0]).decode()) for i, value in enumerate(HOSTILE)),
+    )
 
 
 def other_thresholds():
-    lines = [opened(["Germany"], 60), opened(["Germany", "Berlin"], 20), opened(["Germany", "visit evil.example"], 2, thresholds=(20, 2)), opened(["buy now"], 2, thresholds=(2, 10))]
+    lines = [
+        opened(["Germany"], 60),
+        opened(["Germany", "Berlin"], 20),
+        opened(["Germany", "visit evil.example"], 2, thresholds=(20, 2)),
+        opened(["buy now"], 2, thresholds=(2, 10)),
+    ]
     lines += ["level 0 opened=2 few=4 noline=0 badvalue=0\n", "level 1 opened=2 few=1 noline=0 badvalue=0\n", "records=90 rows=90 refused=0\n"]
     return "".join(lines).encode()
 
 
 def liars():
-    refused = "".join("refused %d %s\n" % (i, ["outer WrongEpoch", "0 Seal", "outer Magic", "outer TooLong", "1 BodyKind"][i % 5 if i < 20 else 0]) for i in range(43))
+    refused = "".join(
+        "refused %d %s\n" % (i, ["outer WrongEpoch", "0 Seal", "outer Magic", "outer TooLong", "1 BodyKind"][i % 5 if i < 20 else 0])
+        for i in range(43)
+    )
     return whole([(["Germany"], (60, 55, 41)), (["Germany", "Berlin"], (20,))], 300, [(8, 2, 1), (3, 1, 0)], refused)
 
 
@@ -98,7 +134,15 @@ DOOR = {"known": 12, "no_frame": 7, "other_threshold": 2}
 
 def about(name, epoch=2969):
     plain = name not in ("nothing", "deep")
-    return page.About(epoch, "week 49 of 2026, 2026-11-30 to 2026-12-06", "2026-12-09 00:31 UTC", name != "one", ("country", "city") if plain else (), DOOR if plain else None, "%d.txt" % epoch)
+    return page.About(
+        epoch,
+        "week 49 of 2026, 2026-11-30 to 2026-12-06",
+        "2026-12-09 00:31 UTC",
+        name != "one",
+        ("country", "city") if plain else (),
+        DOOR if plain else None,
+        "%d.txt" % epoch,
+    )
 
 
 def page_of(name, plan=PLAN):
@@ -114,7 +158,11 @@ def weeks():
     for epoch in range(2940, 2970):
         if epoch in (2950, 2951):
             continue
-        groups = [(["country %02d" % i], (n,)) for i in range(14) if (n := int(9000 / (i + 1) * random.Random(epoch * 31 + i).uniform(.7, 1.3) * (1 + (epoch - 2940) / 60))) > 900]
+        groups = [
+            (["country %02d" % i], (n,))
+            for i in range(14)
+            if (n := int(9000 / (i + 1) * random.Random(epoch * 31 + i).uniform(0.7, 1.3) * (1 + (epoch - 2940) / 60))) > 900
+        ]
         text = whole(groups, sum(words[0] for _, words in groups) + 800, [(20 + epoch % 7, 0, 0)])
         summary = epoch_summary.summarize(star_text.lines(text.splitlines(keepends=True)))
         one = about("five_hundred", epoch)

@@ -23,11 +23,23 @@ class Storage {
   texts = new Map(); room = Infinity; broken = false;
   #check() { if (this.broken) throw new DOMException("no", "SecurityError"); }
   getItem(name) { this.#check(); return this.texts.get(name) ?? null; }
-  setItem(name, text) { this.#check(); if (text.length > this.room) throw new DOMException("full", "QuotaExceededError"); this.texts.set(name, text); }
+  setItem(name, text) {
+    this.#check();
+    if (text.length > this.room) throw new DOMException("full", "QuotaExceededError");
+    this.texts.set(name, text);
+  }
 }
 
 const report = (i, size = 300) => Uint8Array.from({ length: size }, (_, at) => at < 4 ? i >> (8 * at) & 255 : 7);
-const recordsOf = (bytes) => { const found = []; for (let at = 0; at < bytes.length;) { const length = new DataView(bytes.buffer).getUint32(at); found.push(String(bytes.slice(at + 4, at + 4 + length))); at += 4 + length; } return found; };
+function recordsOf(bytes) {
+  const found = [];
+  for (let at = 0; at < bytes.length;) {
+    const length = new DataView(bytes.buffer).getUint32(at);
+    found.push(String(bytes.slice(at + 4, at + 4 + length)));
+    at += 4 + length;
+  }
+  return found;
+}
 
 /** A collector that gives the scripted answers first; a report whose number is `poison` makes 400. */
 function collector(script = [], poison) {
@@ -48,8 +60,8 @@ function collector(script = [], poison) {
 }
 
 async function answers() {
-  const foreign = [[200, "<html>"], [200, ""], [200, "new=1 known=0 full=0 refused=0"], [204], [301], [302], [401], [403], [404], [405], [408], [429], [500], [502], [503, "not kept: disk"],
-    [0, ""], new TypeError("redirected, or no network")];
+  const foreign = [[200, "<html>"], [200, ""], [200, "new=1 known=0 full=0 refused=0"], [204], [301], [302], [401], [403], [404], [405], [408], [429],
+    [500], [502], [503, "not kept: disk"], [0, ""], new TypeError("redirected, or no network")];
   for (const answer of foreign) {
     const storage = new Storage(), { kept } = collector([answer, answer, answer]), outbox = new Outbox("/v1/reports", { storage });
     for (let i = 0; i < 150; i++) await outbox.add(report(i));
@@ -131,7 +143,8 @@ async function tabs() {
     waitingFor.set(name, run);
     try { return await run; } finally { if (waitingFor.get(name) === run) waitingFor.delete(name); }
   } } } });
-  const storage = new Storage(), { kept } = collector(), one = new Outbox("/v1/reports", { storage, most: 500 }), two = new Outbox("/v1/reports", { storage, most: 500 });
+  const storage = new Storage(), { kept } = collector();
+  const [one, two] = [1, 2].map(() => new Outbox("/v1/reports", { storage, most: 500 }));
   const work = async (outbox, from) => { for (let i = 0; i < 200; i++) { await outbox.add(report(from + i)); if (i % 40 === 39) outbox.flush(); } };
   await Promise.all([work(one, 0), work(two, 1000)]);
   await one.flush(); await two.flush();
@@ -150,9 +163,12 @@ async function bounds() {
   for (let i = 0; i < 150; i++) await leaving.add(report(i, 1_600));
   leaving.leave();
   await settle(); await new Promise((done) => setImmediate(done)); await settle();
-  assert.ok(asked.length === 1 && asked[0].keepalive && asked[0].redirect === "error" && asked[0].credentials === "omit" && kept.size === 37 && leaving.waiting === 150);
+  assert.deepEqual([asked.length, asked[0].keepalive, asked[0].redirect, asked[0].credentials], [1, true, "error", "omit"]);
+  assert.deepEqual([kept.size, leaving.waiting], [37, 150]);
   assert.equal(countsOf("new=1 known=2 full=0 refused=3\n", 6).refused, 3);
-  for (const text of ["new=1 known=2 full=0 refused=3", " new=6 known=0 full=0 refused=0", "new=6 known=0 refused=0", "new=6 known=0 full=0 refused=0\n\n", "new=06x"]) assert.equal(countsOf(text, 7), null);
+  const others = [" new=7 known=0 full=0 refused=0", "new=7 known=0 refused=0", "new=7 known=0 full=0 refused=0\n\n", "new=07x",
+    "new=6 known=0 full=0 refused=0"];
+  for (const text of others) assert.equal(countsOf(text, 7), null);
   assert.deepEqual([epochAt(345_600_000), epochAt(345_599_999), epochAt(Date.UTC(2026, 10, 30))], [0, -1, 2969]);
   assert.equal(termsOf({ terms: [{ from_epoch: 3, n: 1 }, { from_epoch: 7, n: 2 }] }, 6).n, 1);
   assert.equal(termsOf({ terms: [{ from_epoch: 3 }] }, 2), undefined);

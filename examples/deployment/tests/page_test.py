@@ -23,11 +23,16 @@ import markup  # noqa: E402
 import page  # noqa: E402
 import star_text  # noqa: E402
 
-ELEMENTS = set("html meta link title style main script h1 h2 p a div section ul li b i bdi span table thead tbody tr th td details summary input button "
-               "svg defs pattern rect text path polyline circle".split())
+ELEMENTS = set(
+    "html meta link title style main script h1 h2 p a div section ul li b i bdi span table thead tbody tr th td details summary input button "
+    "svg defs pattern rect text path polyline circle".split()
+)
 EMPTY = {"meta", "link"}
-ATTRIBUTES = set("lang charset name content http-equiv rel href class style title type placeholder aria-label aria-sort role open id viewbox width height x y cx cy r rx d fill "
-                 "fill-opacity font-size font-weight points stroke stroke-width patternunits patterntransform".split())
+ATTRIBUTES = set(
+    "lang charset name content http-equiv rel href class style title type placeholder aria-label aria-sort role open id "
+    "viewbox width height x y cx cy r rx d fill "
+    "fill-opacity font-size font-weight points stroke stroke-width patternunits patterntransform".split()
+)
 LINKS = re.compile(r"data:,|index\.html|\d+\.html|\d+\.txt")
 STYLES = re.compile(r"(width:\d+\.\d{3}%;?)?(background:#[0-9a-f]{6})?")
 
@@ -78,7 +83,10 @@ def check_page(text):
     digest = base64.b64encode(hashlib.sha256(found.scripts[0].encode()).digest()).decode()
     assert "default-src 'none'" in found.policy and "script-src 'sha256-%s'" % digest in found.policy
     for character in text:
-        assert character.isprintable() or character in "\n\u202f", "a character that can't be seen: U+%04X %s" % (ord(character), unicodedata.name(character, ""))
+        assert character.isprintable() or character in "\n\u202f", "a character that can't be seen: U+%04X %s" % (
+            ord(character),
+            unicodedata.name(character, ""),
+        )
     return found
 
 
@@ -114,7 +122,7 @@ def check_numbers():
     assert len(areas) == len(summary.root.children) == 40
     for child in summary.root.children:
         area = areas["%s: %s" % (child.value.decode(), markup.number(child.members))]
-        assert abs(area / (1080 * 480) - child.members / summary.rows) < .002, child
+        assert abs(area / (1080 * 480) - child.members / summary.rows) < 0.002, child
 
 
 def check_left_out():
@@ -138,12 +146,16 @@ def check_others():
 
 def large_texts():
     """The widest and the deepest texts that 131,072 reports can make."""
-    yield "65,536 first values", [("open w%06d~2 points=2 agree=2 members=2\n" % i) for i in range(65_536)], ["level 0 opened=65536 few=0 noline=0 badvalue=0\n"]
+    yield "65,536 first values", [("open w%06d~2 points=2 agree=2 members=2\n" % i) for i in range(65_536)], [
+        "level 0 opened=65536 few=0 noline=0 badvalue=0\n"
+    ]
+
     def deepest():
         tails = ["".join("/" + "v" * 20 + "%d~2~2" % j for j in range(depth)) for depth in range(16)]
         for i in range(65_536):
             for tail in tails:
                 yield "open w%06d~2~2%s points=2 agree=2 members=2\n" % (i, tail)
+
     yield "65,536 on each of 16 levels", deepest(), ["level %d opened=65536 few=0 noline=0 badvalue=0\n" % i for i in range(16)]
 
 

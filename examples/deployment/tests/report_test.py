@@ -48,7 +48,9 @@ class Place:
         self.folder = tempfile.mkdtemp()
         self.kept, self.pages = os.path.join(self.folder, "store"), os.path.join(self.folder, "pages")
         os.makedirs(self.kept)
-        self.surroundings = dict(os.environ, STAR_STORE=self.kept, STAR_PAGES=self.pages, STAR_TOOL=program, STAR_CONFIGURATION=os.path.join(CODE, "configuration.json"))
+        self.surroundings = dict(
+            os.environ, STAR_STORE=self.kept, STAR_PAGES=self.pages, STAR_TOOL=program, STAR_CONFIGURATION=os.path.join(CODE, "configuration.json")
+        )
 
     def __enter__(self):
         return self
@@ -57,8 +59,13 @@ class Place:
         shutil.rmtree(self.folder)
 
     def start(self, *words, **changed):
-        return subprocess.Popen([sys.executable, os.path.join(CODE, "epoch_report.py"), *words], env={**self.surroundings, **changed},
-                                stdout=subprocess.PIPE, stderr=subprocess.PIPE, text=True)
+        return subprocess.Popen(
+            [sys.executable, os.path.join(CODE, "epoch_report.py"), *words],
+            env={**self.surroundings, **changed},
+            stdout=subprocess.PIPE,
+            stderr=subprocess.PIPE,
+            text=True,
+        )
 
     def run(self, *words, status=0, **changed):
         """What a call says; its status is checked."""
@@ -119,7 +126,9 @@ def check_killed(program):
             assert all(wanted[name] == digest for name, digest in place.texts().items()) if os.path.isdir(place.pages) else True
             place.run()
             assert place.texts() == wanted and not glob.glob(os.path.join(place.pages, "*.new"))
-            assert sorted(name for name in os.listdir(place.pages) if name[0] != ".") == sorted(["index.html"] + ["%d.%s" % (NOW - back, kind) for back in (2, 3, 4) for kind in ("txt", "html", "json")])
+            assert sorted(name for name in os.listdir(place.pages) if name[0] != ".") == sorted(
+                ["index.html"] + ["%d.%s" % (NOW - back, kind) for back in (2, 3, 4) for kind in ("txt", "html", "json")]
+            )
 
 
 def check_two_at_once(program):
@@ -201,8 +210,14 @@ def check_program_faults(program):
         for back in (2, 3):
             fill(place.kept, NOW - back, 30)
         bad = os.path.join(place.folder, "tool")
-        for body, words in (("cat > /dev/null; exit 5", "too many"), ("exit 6", "no memory"), ("cat > /dev/null; echo records=30 rows=30", "line 1"), ("kill -9 $$", "-9"),
-                            ("cat > /dev/null; printf 'records=0 rows=0 refused=0\\n'", "0 records"), ("%s reveal --epoch $3 | head -c 40" % program, "end is missing")):
+        for body, words in (
+            ("cat > /dev/null; exit 5", "too many"),
+            ("exit 6", "no memory"),
+            ("cat > /dev/null; echo records=30 rows=30", "line 1"),
+            ("kill -9 $$", "-9"),
+            ("cat > /dev/null; printf 'records=0 rows=0 refused=0\\n'", "0 records"),
+            ("%s reveal --epoch $3 | head -c 40" % program, "end is missing"),
+        ):
             with open(bad, "w") as file:
                 file.write("#!/bin/sh\nif [ $3 = %d ]; then exec %s reveal --epoch $3; fi\n%s\n" % (NOW - 2, program, body))
             os.chmod(bad, 0o755)
@@ -221,8 +236,13 @@ def check_full_disk(program):
         fill(place.kept, NOW - 3, 30)
         place.run()
         fill(place.kept, NOW - 3, 500, "x" * 60)
-        child = subprocess.run(["bash", "-c", "ulimit -f 0; trap '' XFSZ; exec \"$@\"", "-", sys.executable, os.path.join(CODE, "epoch_report.py")], env=place.surroundings,
-                               stdout=subprocess.PIPE, stderr=subprocess.PIPE, text=True)
+        child = subprocess.run(
+            ["bash", "-c", "ulimit -f 0; trap '' XFSZ; exec \"$@\"", "-", sys.executable, os.path.join(CODE, "epoch_report.py")],
+            env=place.surroundings,
+            stdout=subprocess.PIPE,
+            stderr=subprocess.PIPE,
+            text=True,
+        )
         assert child.returncode and place.rows(NOW - 3) == 30, child
         place.run()
         assert place.rows(NOW - 3) == 530
@@ -243,7 +263,17 @@ def check_preview_and_forget(program):
         assert place.read("%d.html" % (NOW - 3)) == page and "from 20 on" in page and "country" in page
 
 
-CHECKS = [check_missed, check_killed, check_two_at_once, check_wrong_words, check_fewer, check_broken, check_program_faults, check_full_disk, check_preview_and_forget]
+CHECKS = [
+    check_missed,
+    check_killed,
+    check_two_at_once,
+    check_wrong_words,
+    check_fewer,
+    check_broken,
+    check_program_faults,
+    check_full_disk,
+    check_preview_and_forget,
+]
 
 
 def main(program):

@@ -25,13 +25,32 @@ import send  # noqa: E402
 import store  # noqa: E402
 import weeks  # noqa: E402
 
-FOREIGN = [(200, b"<html>captive portal</html>", {}), (200, b"", {}), (200, b"new=1 known=0 full=0 refused=0\n", {}), (200, b"new=-1 known=3 full=0 refused=0\n", {}),
-           (204, b"", {}), (301, b"", {"Location": "/elsewhere"}), (302, b"", {"Location": "/elsewhere"}), (401, b"", {}), (403, b"", {}), (404, b"", {}), (405, b"", {}),
-           (408, b"", {}), (429, b"", {}), (500, b"", {}), (502, b"", {}), (503, b"not kept: disk\n", {}), (504, b"", {}), (None, b"", {}), ("cut", b"", {})]
+FOREIGN = [
+    (200, b"<html>captive portal</html>", {}),
+    (200, b"", {}),
+    (200, b"new=1 known=0 full=0 refused=0\n", {}),
+    (200, b"new=-1 known=3 full=0 refused=0\n", {}),
+    (204, b"", {}),
+    (301, b"", {"Location": "/elsewhere"}),
+    (302, b"", {"Location": "/elsewhere"}),
+    (401, b"", {}),
+    (403, b"", {}),
+    (404, b"", {}),
+    (405, b"", {}),
+    (408, b"", {}),
+    (429, b"", {}),
+    (500, b"", {}),
+    (502, b"", {}),
+    (503, b"not kept: disk\n", {}),
+    (504, b"", {}),
+    (None, b"", {}),
+    ("cut", b"", {}),
+]
 
 
 class Scripted(http.server.BaseHTTPRequestHandler):
     """Answers the first requests by the script, and the others as a collector does; a report of `poison` is never taken."""
+
     protocol_version = "HTTP/1.1"
     script, kept, poison, bodies = [], {}, b"poison", []
 
@@ -69,7 +88,7 @@ class Scripted(http.server.BaseHTTPRequestHandler):
 def served(script):
     Scripted.script, Scripted.kept, Scripted.bodies = list(script), {}, []
     server = http.server.ThreadingHTTPServer(("127.0.0.1", 0), Scripted)
-    threading.Thread(target=server.serve_forever, args=(.02,), daemon=True).start()
+    threading.Thread(target=server.serve_forever, args=(0.02,), daemon=True).start()
     return server, "http://127.0.0.1:%d/v1/reports" % server.server_port
 
 
@@ -111,7 +130,9 @@ def check_never():
     for i in range(450):
         sender.add(Scripted.poison if i == 137 else b"report %d" % i)
     done, slept = patient(sender, 1e6)
-    assert done and sender.given_up == 1 and len(Scripted.kept) == 449 and not slept and max(Scripted.bodies) == 100 and len(Scripted.bodies) < 25, Scripted.bodies
+    assert (
+        done and sender.given_up == 1 and len(Scripted.kept) == 449 and not slept and max(Scripted.bodies) == 100 and len(Scripted.bodies) < 25
+    ), Scripted.bodies
     server.shutdown()
 
 
@@ -134,7 +155,7 @@ def check_add():
         sender.add(b"first")
         flush = threading.Thread(target=sender.flush, args=(1,), daemon=True)
         flush.start()
-        time.sleep(.2)
+        time.sleep(0.2)
         start = time.monotonic()
         for i in range(1_500):
             sender.add(b"report %d" % i)
@@ -150,7 +171,7 @@ def check_pauses():
         sender.add(b"x")
         pauses.append(patient(sender, 20)[1])
     firsts, lasts = sorted(one[0] for one in pauses), [one[-1] for one in pauses]
-    assert .25 <= firsts[0] < firsts[100] - .05 < firsts[-1] - .1 <= .5 and min(lasts) > 8 * max(firsts), (firsts, lasts)
+    assert 0.25 <= firsts[0] < firsts[100] - 0.05 < firsts[-1] - 0.1 <= 0.5 and min(lasts) > 8 * max(firsts), (firsts, lasts)
 
 
 def check_command():
@@ -161,7 +182,13 @@ def check_command():
             file.write("\ufeffDE,Berlin\n  DE ,\"Frank,furt\"\nFR\n%s,x\n\nFR,Paris\n" % ("é" * 33))
         words = [sys.executable, os.path.join(CODE, "send.py"), "--waiting", waiting, "--patience", "1", "--url"]
         away = subprocess.run(words + ["http://127.0.0.1:1/", table], stdout=subprocess.PIPE, stderr=subprocess.PIPE, text=True)
-        assert away.returncode == 1 and "waiting=3" in away.stdout and "bad_rows=2" in away.stdout and "row 3: " in away.stderr and "row 4: " in away.stderr, away
+        assert (
+            away.returncode == 1
+            and "waiting=3" in away.stdout
+            and "bad_rows=2" in away.stdout
+            and "row 3: " in away.stderr
+            and "row 4: " in away.stderr
+        ), away
         server, url = served([])
         again = subprocess.run(words + [url], stdout=subprocess.PIPE, text=True)
         assert again.returncode == 0 and "new=3" in again.stdout and "waiting=0" in again.stdout and os.path.getsize(waiting) == 0, again
@@ -174,14 +201,31 @@ def check_command():
 def collector(folder, port):
     """The real collector, once it answers."""
     surroundings = dict(os.environ, STAR_STORE=folder, STAR_CONFIGURATION=os.path.join(CODE, "configuration.json"))
-    child = subprocess.Popen(["/usr/bin/gunicorn", "--worker-class", "gthread", "--workers", "1", "--threads", "8", "--bind", "127.0.0.1:%d" % port, "--log-level", "critical",
-                              "collector:application()"], cwd=CODE, env=surroundings, start_new_session=True)
+    child = subprocess.Popen(
+        [
+            "/usr/bin/gunicorn",
+            "--worker-class",
+            "gthread",
+            "--workers",
+            "1",
+            "--threads",
+            "8",
+            "--bind",
+            "127.0.0.1:%d" % port,
+            "--log-level",
+            "critical",
+            "collector:application()",
+        ],
+        cwd=CODE,
+        env=surroundings,
+        start_new_session=True,
+    )
     for _ in range(200):
         try:
             urllib.request.urlopen("http://127.0.0.1:%d/metrics" % port, timeout=5).close()
             return child
         except OSError:
-            time.sleep(.05)
+            time.sleep(0.05)
     raise SystemExit("the collector doesn't start")
 
 
@@ -198,11 +242,11 @@ def check_kills(kills=20):
         flush = threading.Thread(target=lambda: [sender.flush(5) for _ in iter(lambda: stop.is_set() and not sender.waiting, True)], daemon=True)
         flush.start()
         for kill in range(kills):
-            for report in reports[kill * 200:(kill + 1) * 200] + [b"x" * 9_000] * (kill == 3):
+            for report in reports[kill * 200 : (kill + 1) * 200] + [b"x" * 9_000] * (kill == 3):
                 start = time.monotonic()
                 sender.add(report)
                 slowest = max(slowest, time.monotonic() - start)
-            time.sleep(random.uniform(0, .3))
+            time.sleep(random.uniform(0, 0.3))
             os.killpg(child.pid, signal.SIGKILL)
             child.wait()
             child = collector(folder, port)
@@ -211,7 +255,12 @@ def check_kills(kills=20):
         os.killpg(child.pid, signal.SIGTERM)
         child.wait()
         kept = list(store.frames(folder, epoch))
-        assert kept == sorted(reports) and sender.given_up == 1 and not sender.waiting and slowest < .5, (len(kept), sender.given_up, sender.counts, slowest)
+        assert kept == sorted(reports) and sender.given_up == 1 and not sender.waiting and slowest < 0.5, (
+            len(kept),
+            sender.given_up,
+            sender.counts,
+            slowest,
+        )
         print("     %d kills, 4,000 reports kept once each, 1 given up, the slowest add %.1f ms, %s" % (kills, 1e3 * slowest, sender.counts))
 
 

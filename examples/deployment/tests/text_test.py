@@ -54,7 +54,7 @@ def program_texts(program):
     two = run(program, ["make", "--epoch", "7", "--thresholds", "3,2", "--version", "2"], second)
     with open(os.path.join(TOP, "examples", "reports.stream"), "rb") as file:
         mixed = file.read()
-    broken = bytearray(one[:4 + int.from_bytes(one[:4], "big")])
+    broken = bytearray(one[: 4 + int.from_bytes(one[:4], "big")])
     broken[-1] ^= 1
     streams = [b"", one, two, one + two, mixed, one + bytes(broken) + b"\0\0\0\2ST" + two[:30]]
     return [run(program, ["reveal", "--epoch", "7"], stream) for stream in streams]
@@ -74,22 +74,59 @@ records=14 rows=13 refused=2
 
 # A line of GOOD, what stands in its place, and the line of the fault.
 BROKEN = [
-    ("open DE~3 ", "open DE~1 ", 1), ("open DE~3 ", "open DE~513 ", 1), ("open DE~3 ", "open DE~03 ", 1), ("open DE~3 ", "open DE ", 1),
-    ("open DE~3 ", "open %44E~3 ", 1), ("open DE~3 ", "open D%c3~3 ", 1), ("open DE~3 ", "open D%C~3 ", 1), ("open DE~3 ", "open ~3 ", 1),
-    ("open DE~3 ", "open " + "x" * 65 + "~3 ", 1), ("open DE~3 ", "open D E~3 ", 1), ("open DE~3 ", "open D/E~3 ", 1),
-    ("points=4 agree=4", "points=2 agree=2", 1), ("points=4 agree=4", "points=4 agree=5", 1), ("points=4 agree=4", "points=7 agree=7", 1),
-    ("points=4 agree=4", "points=4 agree=3", 1), ("points=4 agree=4", "points=04 agree=4", 1), ("points=4 agree=4", "points=+4 agree=4", 1),
-    ("points=4 agree=4", "points=\u0664 agree=4", 1), ("members=6", "members=6 ", 1), ("members=6", "members=6\r", 1), ("members=6", "members=4", 3),
-    ("DE~3/Bonn~2", "DE~3/Bonn~2~2", 3), ("DE~3/Bonn~2", "DE~3/Berlin~2", 3), ("DE~3/Bonn~2", "DE~3/Aachen~2", 3), ("DE~3/Bonn~2", "DE~4/Bonn~2", 3),
-    ("DE~3/Bonn~2", "DE~3/Berlin~2/Bonn~2/x~2", 3), ("open FR~3 ", "open AT~3 ", 4), ("open FR~3 ", "open DE~3 ", 4), ("points=5 agree=4", "points=5 agree=3", 4),
-    ("level 0 opened=2", "level 0 opened=3", 5), ("level 0 opened=2", "level 1 opened=2", 5), ("level 1 opened=2", "level 2 opened=2", 6),
-    ("level 1 opened=2 few=1 noline=1 badvalue=0\n", "", 9), ("level 1 ", "level 0 opened=2 few=1 noline=0 badvalue=0\nlevel 1 ", 6),
-    ("0 outer WrongEpoch", "0 outer Seal", 7), ("0 outer WrongEpoch", "0 outer Wrong", 7), ("0 outer WrongEpoch", "0 inner WrongEpoch", 7),
-    ("3 0 Seal", "3 2 Seal", 8), ("3 0 Seal", "0 0 Seal", 8), ("3 0 Seal", "3 0 CutLength", 8), ("3 0 Seal", "99 0 Seal", 10),
-    ("aux 4 1 build%20116", "aux 4 2 build%20116", 9), ("aux 4 1 build%20116", "aux 4 1 ", 9), ("aux 4 1 build%20116", "aux 4 1 " + "x" * 256, 9),
-    ("refused 3 0 Seal\naux 4 1 build%20116", "aux 4 1 build%20116\nrefused 3 0 Seal", 9), ("refused=2", "refused=1", 10), ("rows=13", "rows=12", 10),
-    ("records=14 rows=13", "records=11 rows=10", 10), ("refused=2\n", "refused=2", 10), ("refused=2\n", "refused=2\n\n", 11),
-    ("refused=2\n", "refused=2\nrecords=14 rows=13 refused=2\n", 11), ("open DE~3 ", "\nopen DE~3 ", 1), ("open DE~3 ", "opened DE~3 ", 1),
+    ("open DE~3 ", "open DE~1 ", 1),
+    ("open DE~3 ", "open DE~513 ", 1),
+    ("open DE~3 ", "open DE~03 ", 1),
+    ("open DE~3 ", "open DE ", 1),
+    ("open DE~3 ", "open %44E~3 ", 1),
+    ("open DE~3 ", "open D%c3~3 ", 1),
+    ("open DE~3 ", "open D%C~3 ", 1),
+    ("open DE~3 ", "open ~3 ", 1),
+    ("open DE~3 ", "open " + "x" * 65 + "~3 ", 1),
+    ("open DE~3 ", "open D E~3 ", 1),
+    ("open DE~3 ", "open D/E~3 ", 1),
+    ("points=4 agree=4", "points=2 agree=2", 1),
+    ("points=4 agree=4", "points=4 agree=5", 1),
+    ("points=4 agree=4", "points=7 agree=7", 1),
+    ("points=4 agree=4", "points=4 agree=3", 1),
+    ("points=4 agree=4", "points=04 agree=4", 1),
+    ("points=4 agree=4", "points=+4 agree=4", 1),
+    ("points=4 agree=4", "points=\u0664 agree=4", 1),
+    ("members=6", "members=6 ", 1),
+    ("members=6", "members=6\r", 1),
+    ("members=6", "members=4", 3),
+    ("DE~3/Bonn~2", "DE~3/Bonn~2~2", 3),
+    ("DE~3/Bonn~2", "DE~3/Berlin~2", 3),
+    ("DE~3/Bonn~2", "DE~3/Aachen~2", 3),
+    ("DE~3/Bonn~2", "DE~4/Bonn~2", 3),
+    ("DE~3/Bonn~2", "DE~3/Berlin~2/Bonn~2/x~2", 3),
+    ("open FR~3 ", "open AT~3 ", 4),
+    ("open FR~3 ", "open DE~3 ", 4),
+    ("points=5 agree=4", "points=5 agree=3", 4),
+    ("level 0 opened=2", "level 0 opened=3", 5),
+    ("level 0 opened=2", "level 1 opened=2", 5),
+    ("level 1 opened=2", "level 2 opened=2", 6),
+    ("level 1 opened=2 few=1 noline=1 badvalue=0\n", "", 9),
+    ("level 1 ", "level 0 opened=2 few=1 noline=0 badvalue=0\nlevel 1 ", 6),
+    ("0 outer WrongEpoch", "0 outer Seal", 7),
+    ("0 outer WrongEpoch", "0 outer Wrong", 7),
+    ("0 outer WrongEpoch", "0 inner WrongEpoch", 7),
+    ("3 0 Seal", "3 2 Seal", 8),
+    ("3 0 Seal", "0 0 Seal", 8),
+    ("3 0 Seal", "3 0 CutLength", 8),
+    ("3 0 Seal", "99 0 Seal", 10),
+    ("aux 4 1 build%20116", "aux 4 2 build%20116", 9),
+    ("aux 4 1 build%20116", "aux 4 1 ", 9),
+    ("aux 4 1 build%20116", "aux 4 1 " + "x" * 256, 9),
+    ("refused 3 0 Seal\naux 4 1 build%20116", "aux 4 1 build%20116\nrefused 3 0 Seal", 9),
+    ("refused=2", "refused=1", 10),
+    ("rows=13", "rows=12", 10),
+    ("records=14 rows=13", "records=11 rows=10", 10),
+    ("refused=2\n", "refused=2", 10),
+    ("refused=2\n", "refused=2\n\n", 11),
+    ("refused=2\n", "refused=2\nrecords=14 rows=13 refused=2\n", 11),
+    ("open DE~3 ", "\nopen DE~3 ", 1),
+    ("open DE~3 ", "opened DE~3 ", 1),
 ]
 
 
@@ -122,7 +159,7 @@ def changed(text, random_numbers):
     kind = random_numbers.randrange(4)
     at = random_numbers.randrange(len(text))
     if kind == 0:
-        return text[:at] + bytes([random_numbers.randrange(256)]) + text[at + 1:]
+        return text[:at] + bytes([random_numbers.randrange(256)]) + text[at + 1 :]
     lines = text.splitlines(keepends=True)
     at = random_numbers.randrange(len(lines))
     if kind == 1:
@@ -168,7 +205,10 @@ def main(program):
     rules = check_rules()
     refused, taken = check_program(texts)
     check_command(texts[1])
-    print("reader of texts: %d texts of the program, %d broken rules, %d cuts refused, 4,000 changed texts of which %d are texts again" % (len(texts), rules, refused, taken))
+    print(
+        "reader of texts: %d texts of the program, %d broken rules, %d cuts refused, 4,000 changed texts of which %d are texts again"
+        % (len(texts), rules, refused, taken)
+    )
 
 
 if __name__ == "__main__":

@@ -1,5 +1,5 @@
-// Sends reports, and keeps each until the collector has answered that it is kept. A report that is sent twice counts once, so whatever wasn't answered
-// is sent again with the same bytes. Nothing goes along that names the visitor: no cookies, no referrer.
+// Sends reports, and keeps each until the collector has answered that it is kept. A report that is sent twice counts once, so whatever wasn't
+// answered is sent again with the same bytes. Nothing goes along that names the visitor: no cookies, no referrer.
 
 const BATCH = 100;                      // reports of a request
 const FIRST_PAUSE = 2_000;              // milliseconds before the second try; each later pause is twice as long
@@ -113,7 +113,9 @@ export class Outbox {
   // A full storage takes a shorter list.
   #keepOnly(after) {
     const wanted = new Set(after);
-    try { this.#storage.setItem(this.#name, JSON.stringify(this.#read().filter((text) => wanted.has(text)))); } catch { /* it keeps what it has, which is sent again */ }
+    try {
+      this.#storage.setItem(this.#name, JSON.stringify(this.#read().filter((text) => wanted.has(text))));
+    } catch { /* it keeps what it has, which is sent again */ }
   }
 
   // What is in the storage and isn't a list of reports goes under another name; someone may still read it.
@@ -187,6 +189,7 @@ export class Outbox {
 
   // A body of no type is sent at once, with no question by OPTIONS before it.
   #fetch(texts, more) {
-    return fetch(this.#url, { method: "POST", body: streamOf(texts), credentials: "omit", referrerPolicy: "no-referrer", redirect: "error", cache: "no-store", ...more });
+    const hidden = { credentials: "omit", referrerPolicy: "no-referrer", redirect: "error", cache: "no-store" };
+    return fetch(this.#url, { method: "POST", body: streamOf(texts), ...hidden, ...more });
   }
 }

@@ -20,8 +20,13 @@ function sayState() {
   const { counts, lost, waiting, lasting } = outbox, kept = counts.new + counts.known;
   const lines = [];
   if (kept) lines.push(`Reported: the collector has ${kept === 1 ? "the report" : counted(kept, "report")}.`);
-  if (counts.refused) lines.push(`The collector refused ${counted(counts.refused, "report")}. This device's clock may be wrong, or this page may be old: load it again.`);
-  if (waiting) lines.push(`${counted(waiting, "report")} ${waiting === 1 ? "waits" : "wait"} to be sent; this page tries again by itself. ${lasting ? "You may close it: the next visit sends the rest." : "This browser keeps nothing, so leave the page open."}`);
+  if (counts.refused) {
+    lines.push(`The collector refused ${counted(counts.refused, "report")}. This device's clock may be wrong, or this page old: load it again.`);
+  }
+  if (waiting) {
+    lines.push(`${counted(waiting, "report")} ${waiting === 1 ? "waits" : "wait"} to be sent; this page tries again by itself. `
+      + (lasting ? "You may close it: the next visit sends the rest." : "This browser keeps nothing, so leave the page open."));
+  }
   if (lost) lines.push(`${counted(lost, "report")} ${lost === 1 ? "was" : "were"} lost: the collector never takes it, or this browser had no room.`);
   if (!waiting && waited && !lines.length) lines.push("Another tab of this page has sent what waited.");
   waited = waiting;
@@ -36,8 +41,10 @@ function showTerms() {
     label.append(name, input);
     return label;
   }));
-  const steps = terms.layers.map((name, i) => i ? `its ${name} once ${terms.thresholds[i]} do` : `the ${name} is learned once ${terms.thresholds[i]} reports of this week agree on it`);
-  byId("terms").textContent = `What you enter leaves this page as one sealed report, without your name and without cookies. In it, ${steps.join(", ")}.`;
+  const steps = terms.layers.map((name, i) => i ? `its ${name} once ${terms.thresholds[i]} do`
+    : `the ${name} is learned once ${terms.thresholds[i]} reports of this week agree on it`);
+  byId("terms").textContent = "What you enter leaves this page as one sealed report, without your name and without cookies. "
+    + `In it, ${steps.join(", ")}.`;
 }
 
 // The values of the form in the one normal form; null after saying which one can't be sent.
@@ -46,7 +53,8 @@ function valuesOfForm() {
   for (const [i, value] of values.entries()) {
     const bytes = new TextEncoder().encode(value).length;
     if (bytes >= 1 && bytes <= MAX_VALUE) continue;
-    say(bytes ? `The ${terms.layers[i]} has ${bytes} bytes, and at most ${MAX_VALUE} can be sent. Nothing was sent.` : `The ${terms.layers[i]} is blank. Nothing was sent.`, "bad");
+    const fault = bytes ? `has ${bytes} bytes, and at most ${MAX_VALUE} can be sent` : "is blank";
+    say(`The ${terms.layers[i]} ${fault}. Nothing was sent.`, "bad");
     inputs[i].focus();
     return null;
   }
@@ -66,7 +74,8 @@ async function report() {
 
 // Whether this visitor may report now: once a week, unless they said no.
 function showState() {
-  const said = remembered(NEVER) ? "You asked not to be asked here, so nothing is sent." : Number(remembered(REPORTED)) === epochAt() ? "You have reported this week." : "";
+  const reported = Number(remembered(REPORTED)) === epochAt() ? "You have reported this week." : "";
+  const said = remembered(NEVER) ? "You asked not to be asked here, so nothing is sent." : reported;
   byId("send").disabled = Boolean(said) && !trial;
   byId("never").hidden = Boolean(remembered(NEVER));
   if (said && !trial && !byId("said").textContent) say(said);
