@@ -395,22 +395,21 @@ def over_time(weeks, values):
 
 
 def weeks_beside(weeks, values):
-    """The first values of the last weeks beside each other."""
-    some = weeks[-WEEKS_BESIDE:]
-    rows = []
+    """The first values of the last weeks beside each other, the newest week first."""
+    some = weeks[: -WEEKS_BESIDE - 1 : -1]
+    heads = [element("th", "value")] + [element("th", week.about.name.split(" of ")[0], class_="n", title=week.about.name) for week in some]
+    body = []
     for step, pairs in values[:20]:
         members = dict(pairs)
-        rows.append([shown(step.value)] + [_share(members.get(week.about.epoch), week) for week in some])
-    heads = ["value"] + ["#" + week.about.name.split(",")[0] for week in some]
-    top = element("tr", *(element("th", head.lstrip("#"), class_="n" if head[0] == "#" else None) for head in heads))
-    body = [element("tr", element("td", row[0]), *(element("td", one, class_="n") for one in row[1:])) for row in rows]
+        row = [element("td", _share(members.get(week.about.epoch), week), class_="n") for week in some]
+        body.append(element("tr", element("td", shown(step.value)), *row))
     return section(
         "Weeks beside each other",
         quiet(
-            "Reports of a first value, and their percentage of all reports of the week. "
+            "Reports of a first value, and their percentage of all reports of the week, the newest first. "
             "A dash: the value didn't open, or isn't among the 40 greatest of its week."
         ),
-        element("table", element("thead", top), element("tbody", *body)),
+        element("table", element("thead", element("tr", *heads)), element("tbody", *body)),
     )
 
 

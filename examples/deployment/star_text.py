@@ -235,7 +235,7 @@ class Reader:
 def _fields(form, line):
     found = form.fullmatch(line)
     if found is None:
-        raise ValueError("it has not the form of its kind")
+        raise ValueError("it does not have the form of such a line")
     return found.groups()
 
 

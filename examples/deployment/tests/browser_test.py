@@ -201,7 +201,7 @@ def check_away(driver, site):
         try_reports.load(driver, site.address + "?trial")
         wait_for(lambda: len(site.kept) == 40)
         wait_for(lambda: "has 40 reports" in said(driver))
-        assert site.bodies in ([40], [40, 40]), site.bodies  # a page that is left sends, too
+        assert set(site.bodies) == {40}, site.bodies  # a page that is left sends, too, so it may be more than one
     site.answer = (200, b"new=0 known=0 full=0 refused=1\n")
     driver.execute_script(SUBMIT, ["Germany", "Bonn"])
     wait_for(lambda: "refused 1 report" in said(driver))

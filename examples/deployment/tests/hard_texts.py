@@ -8,6 +8,7 @@ sys.path.insert(0, os.path.dirname(HERE))
 import epoch_summary  # noqa: E402
 import page  # noqa: E402
 import star_text  # noqa: E402
+import weeks as weeks_of  # noqa: E402
 
 PLAN = epoch_summary.Plan((20, 10))
 HOSTILE = [
@@ -166,7 +167,7 @@ def weeks():
         text = whole(groups, sum(words[0] for _, words in groups) + 800, [(20 + epoch % 7, 0, 0)])
         summary = epoch_summary.summarize(star_text.lines(text.splitlines(keepends=True)))
         one = about("five_hundred", epoch)
-        one.name = "week %d of 2026, ..." % (epoch - 2920)
+        one.name = weeks_of.name_of(epoch)
         found.append(page.week_of(summary, one))
     return found
 
@@ -174,7 +175,7 @@ def weeks():
 def main(folder):
     os.makedirs(folder, exist_ok=True)
     pages = {name: page_of(name) for name in CASES}
-    pages["index"] = page.index_page(weeks(), [("2901.txt", "line 4: <b>it has not the form of its kind</b>")])
+    pages["index"] = page.index_page(weeks(), [("2901.txt", "line 4: <b>it does not have the form of such a line</b>")])
     for name, text in pages.items():
         with open(os.path.join(folder, name + ".html"), "w", encoding="utf-8") as file:
             file.write(text)
