@@ -103,7 +103,7 @@ class Sender:
                 if after is None:
                     pause = 0.5
                     continue
-                wait = max(after, random.uniform(0.5, 1) * pause)
+                wait = max(random.uniform(1, 2) * after, random.uniform(0.5, 1) * pause)
                 if now + wait > end:
                     return False
                 time.sleep(wait)

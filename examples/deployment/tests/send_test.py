@@ -119,7 +119,7 @@ def check_answers():
     sender = send.Sender(url)
     sender.add(b"one")
     done, slept = patient(sender, 1e6)
-    assert done and slept[0] == 7 and slept[1] < 2, slept
+    assert done and 7 <= slept[0] <= 14 and slept[1] < 2, slept
     server.shutdown()
 
 
