@@ -1,8 +1,9 @@
 #!/usr/bin/env python3
-"""The reader of texts: text_test.py PROGRAM
+"""The reader of texts: text_test.py PROGRAM [--mutations N]
 
 Texts of the built program are read, and spelled again from what was read they are the same bytes. Texts that were written by hand for
 each rule of docs/FORMATS.md are refused at the line that breaks it. Every cut of a text and 4,000 changed ones are refused, or spell themselves.
+--mutations reads what `reveal` and `openbook` print for the first N streams of tests/mutations.py as well.
 """
 import csv
 import io
@@ -200,6 +201,21 @@ def check_command(text):
     assert half.returncode == 1 and half.stdout == b"" and half.stderr
 
 
+def check_mutations(program, number):
+    """What the program prints for streams that are derived from good ones is read, and spelled again the same."""
+    with open(os.path.join(TOP, "tests", "mutations.py"), encoding="utf-8") as file:
+        source = file.read()
+    sys.path.insert(0, os.path.join(TOP, "tests", "client"))
+    mutations = {"__name__": "mutations", "__file__": os.path.join(TOP, "tests", "mutations.py")}
+    exec(compile(source[: source.rindex("\nmain()")], "mutations.py", "exec"), mutations)  # without its last line, which runs it
+    for one in range(number):
+        epoch, stream = mutations["stream_of"](one)
+        words = ["--epoch", str(epoch)]
+        for text in (run(program, ["reveal"] + words, stream), run(program, ["openbook"] + words, run(program, ["book"] + words, stream))):
+            assert holds(text), (one, text)
+    print("reader of texts: %d texts of %d streams that are derived from good ones" % (2 * number, number))
+
+
 def main(program):
     texts = program_texts(program)
     rules = check_rules()
@@ -209,6 +225,8 @@ def main(program):
         "reader of texts: %d texts of the program, %d broken rules, %d cuts refused, 4,000 changed texts of which %d are texts again"
         % (len(texts), rules, refused, taken)
     )
+    if "--mutations" in sys.argv:
+        check_mutations(program, int(sys.argv[sys.argv.index("--mutations") + 1]))
 
 
 if __name__ == "__main__":
