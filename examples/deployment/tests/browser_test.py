@@ -205,6 +205,8 @@ def check_away(driver, site):
     site.answer = (200, b"new=0 known=0 full=0 refused=1\n")
     driver.execute_script(SUBMIT, ["Germany", "Bonn"])
     wait_for(lambda: "refused 1 report" in said(driver))
+    try_reports.load(driver, site.address)
+    assert "have reported" not in said(driver) and not driver.execute_script("return document.getElementById('send').disabled")
     forget(driver)
 
 

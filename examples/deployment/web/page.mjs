@@ -69,7 +69,9 @@ async function report() {
   if (JSON.stringify(now) !== JSON.stringify(terms)) return say("The terms of this page have changed. Load it again; nothing was sent.", "bad");
   await outbox.add(client.report({ values, thresholds: now.thresholds, version: now.version, epoch }));
   remember(REPORTED, String(epoch));
+  const refused = outbox.counts.refused;
   await outbox.flush();
+  if (outbox.counts.refused > refused) remember(REPORTED, "");        // a refused report is none: with the clock set right, there may be one
 }
 
 // Whether this visitor may report now: once a week, unless they said no.
