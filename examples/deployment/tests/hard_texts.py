@@ -96,9 +96,10 @@ def other_thresholds():
         opened(["Germany"], 60),
         opened(["Germany", "Berlin"], 20),
         opened(["Germany", "visit evil.example"], 2, thresholds=(20, 2)),
-        opened(["buy now"], 2, thresholds=(2, 10)),
+        opened(["buy now"], 12, thresholds=(2, 10)),
+        opened(["buy now", "evil, with the week's own threshold"], 12, thresholds=(2, 10)),
     ]
-    lines += ["level 0 opened=2 few=4 noline=0 badvalue=0\n", "level 1 opened=2 few=1 noline=0 badvalue=0\n", "records=90 rows=90 refused=0\n"]
+    lines += ["level 0 opened=2 few=4 noline=0 badvalue=0\n", "level 1 opened=3 few=1 noline=0 badvalue=0\n", "records=90 rows=90 refused=0\n"]
     return "".join(lines).encode()
 
 

@@ -135,21 +135,29 @@ async function storages() {
 }
 
 async function tabs() {
-  const waitingFor = new Map();
+  const waitingFor = new Map(), held = new Set();
   Object.defineProperty(globalThis, "navigator", { configurable: true, value: { locks: { async request(name, { ifAvailable }, work) {
     if (ifAvailable && waitingFor.has(name)) return work(null);
     const before = waitingFor.get(name);
-    const run = (async () => { await before; await new Promise((done) => setImmediate(done)); return work({}); })();
+    const run = (async () => {
+      await before;
+      await new Promise((done) => setImmediate(done));
+      held.add(name);
+      try { return await work({}); } finally { held.delete(name); }
+    })();
     waitingFor.set(name, run);
     try { return await run; } finally { if (waitingFor.get(name) === run) waitingFor.delete(name); }
   } } } });
-  const storage = new Storage(), { kept } = collector();
+  const storage = new Storage(), { kept } = collector(), write = storage.setItem;
+  let unlocked = 0;
+  storage.setItem = (name, text) => { unlocked += !held.has("star-outbox"); write.call(storage, name, text); };
   const [one, two] = [1, 2].map(() => new Outbox("/v1/reports", { storage, most: 500 }));
   const work = async (outbox, from) => { for (let i = 0; i < 200; i++) { await outbox.add(report(from + i)); if (i % 40 === 39) outbox.flush(); } };
   await Promise.all([work(one, 0), work(two, 1000)]);
   await one.flush(); await two.flush();
   while (one.waiting) await next();
   assert.deepEqual([kept.size, one.lost + two.lost, one.counts.new + two.counts.new], [400, 0, 400]);
+  assert.equal(unlocked, 0, "the list was changed without its lock");
   delete globalThis.navigator;
 }
 
