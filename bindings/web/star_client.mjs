@@ -134,7 +134,8 @@ class Client {
     const what = this.#put(layers, cells, extra);
     const memory = new Uint8Array(this.#exports.memory.buffer);
     memory.set(seed, at);
-    const status = this.#exports.star_client_report(...what, epoch, BigInt(at), BigInt(SEED_BYTES), client, BigInt(out), BigInt(MAX_REPORT), BigInt(written));
+    const status = this.#exports.star_client_report(...what, epoch, BigInt(at), BigInt(SEED_BYTES), client,
+      BigInt(out), BigInt(MAX_REPORT), BigInt(written));
     if (status) fail(status);
     const length = this.#written();
     if (front) target.set([0, 0, length >> 8, length & 255], place);
@@ -149,7 +150,8 @@ class Client {
     thresholds.forEach((k, i) => view.setUint16(at.thresholds + 2 * i, k, true));
     memory.set(extra, at.extra);
     memory.set(cells, at.cells);
-    return [version, BigInt(at.cells), BigInt(cells.length), BigInt(at.thresholds), BigInt(thresholds.length), BigInt(at.extra), BigInt(extra.length)];
+    return [version, BigInt(at.cells), BigInt(cells.length), BigInt(at.thresholds), BigInt(thresholds.length),
+      BigInt(at.extra), BigInt(extra.length)];
   }
 
   #written() {
