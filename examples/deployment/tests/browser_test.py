@@ -1,11 +1,13 @@
 #!/usr/bin/python3
-"""Pages and form in Chromium and Firefox: browser_test.py [FOLDER]        FOLDER gets screenshots
+"""Pages and form in Chromium, Firefox and, with a display, WebKitGTK: browser_test.py [FOLDER]        FOLDER gets screenshots
 
 No hostile value runs in a page, and a page loads nothing. The form sends nothing where its script, its module or its storage is missing, nor before
 it is ready; values that can't be sent are named; reports outlive a collector that is away, foreign answers and a reload, and arrive once.
-Packages: chromium chromium-driver firefox-esr python3-selenium. Firefox needs no geckodriver.
+Packages: chromium chromium-driver firefox-esr python3-selenium, and for WebKitGTK webkit2gtk-driver and a display (xvfb). Firefox needs no
+geckodriver. WebKitGTK's driver shows no console.
 """
 import contextlib
+import glob
 import http.server
 import os
 import shutil
@@ -22,6 +24,7 @@ import frames  # noqa: E402
 import hard_texts  # noqa: E402
 import page  # noqa: E402
 import try_reports  # noqa: E402
+from selenium import webdriver  # noqa: E402
 from selenium.common.exceptions import NoAlertPresentException  # noqa: E402
 
 CLIENT = os.path.join(TOP, "bindings", "web")
@@ -246,6 +249,11 @@ def has_alert(driver):
     return True
 
 
+def console_of(driver):
+    """What the console has since the last call; of Chromium alone."""
+    return driver.get_log("browser") if isinstance(driver, webdriver.Chrome) else []
+
+
 LOOK = """const number = (what) => document.querySelectorAll(what).length;
 const active = [...document.querySelectorAll('*')].filter((e) => [...e.attributes].some((a) => a.name.startsWith('on')));
 return [document.title, number('script'), number('img,iframe,object,embed,base,form,link:not([rel=icon])'), active.length,
@@ -255,7 +263,7 @@ getComputedStyle(document.querySelector('main')).display, document.documentEleme
 
 def check_pages(driver, folder):
     """Each hard page: nothing ran, nothing was loaded, nothing is hidden, and it is no wider than the window."""
-    console = [] if isinstance(driver, firefox.Firefox) else driver.get_log("browser")
+    console_of(driver)
     for name in sorted(os.listdir(folder)):
         start = time.monotonic()
         driver.get("file://" + os.path.join(folder, name))
@@ -263,7 +271,7 @@ def check_pages(driver, folder):
         found = driver.execute_script(LOOK)
         assert not has_alert(driver) and found[0].startswith(("week 49", "Telemetry")) and found[1:] == [1, 0, 0, 0, "block", True], (name, found)
         print("     %-22s %.2f s" % (name, spent))
-    console = [] if isinstance(driver, firefox.Firefox) else driver.get_log("browser")
+    console = console_of(driver)
     assert not console, console
 
 
@@ -280,6 +288,16 @@ def check_table(driver, folder):
     assert found[0] == found[3] == "country 00" and found[1] == "country 00" and found[2].startswith("country 39") and found[5] > 5, found
 
 
+def webkit(plain=True):
+    """WebKitGTK's own browser under its driver, which takes no storage where `plain` is false."""
+    options = webdriver.WebKitGTKOptions()
+    options.binary_location = glob.glob("/usr/lib/*/webkit2gtk-4.*/MiniBrowser")[-1]
+    options.add_argument("--automation")
+    if not plain:
+        options.add_argument("--enable-html5-local-storage=false")
+    return webdriver.WebKitGTK(executable_path=shutil.which("WebKitWebDriver"), options=options)
+
+
 def browsers():
     """Each browser by name, one that may not keep anything, and how to start it."""
     profiles = tempfile.mkdtemp()
@@ -293,6 +311,10 @@ def browsers():
 
     yield "Chromium", chromium
     yield "Firefox", lambda plain=True: firefox.Firefox() if plain else firefox.Firefox(**{"dom.storage.enabled": False})
+    if shutil.which("WebKitWebDriver") and os.environ.get("DISPLAY"):
+        yield "WebKitGTK", webkit
+    else:
+        print("no WebKitGTK: it needs WebKitWebDriver and a display")
     shutil.rmtree(profiles, ignore_errors=True)
 
 
